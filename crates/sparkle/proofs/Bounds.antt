@@ -1,0 +1,174 @@
+-- Every word stays below 2^32, part by part; the permutation's words are below 2^32 whatever it is given.
+use mathlib.Core.Path.{_≡_, refl, sym, ap, ap₂, _∙_}
+use mathlib.Core.List.{List, [], _∷_, _++_, map, append-nil}
+use Prim.Native.Nat.{ℕ, zero, suc, _+_, _-_, _%_, _^_, _<_, _≤_}
+use native.Mathlib.Nat.{mod-lt, mod-eq-of-lt}
+use native.Mathlib.Omega.{arith}
+use lib.Pow.{pow-pos}
+use lib.Dec.{lit<, lit≤}
+use lib.Bits.{bitXor, xor-lt}
+use lib.ListN.{length, take, drop, getD, set, replicate, drop-of-length-le}
+use lib.Seq.{take-append-le, take-all, length-take-le}
+use Rattle.sparkle.specs.Words.{addw, rotr, ell}
+use Rattle.sparkle.specs.declared.scalar.Branch.{Branch}
+use Rattle.sparkle.specs.Sparkle.{rcon, quarter, arxBox, constants, boxes, xorXs, xorYs, xors, xorEach, feistel, linear, step, run, state, sparkle, sparkleIn}
+use Rattle.sparkle.proofs.Rotate.{rotr-lt}
+
+-- every element is below 2^32
+pub data Words : List ℕ → Type 0 where
+  none : Words []
+  more : {x : ℕ} {w : List ℕ} → x < 2 ^ 32 → Words w → Words (x ∷ w)
+
+pub words-of : (w : List ℕ) → ((i : ℕ) → getD w i 0 < 2 ^ 32) → Words w
+words-of [] h = none
+words-of (x ∷ w) h = more (h zero) (words-of w (λ i. h (suc i)))
+
+pub words-at : {w : List ℕ} → Words w → (i : ℕ) → getD w i 0 < 2 ^ 32
+words-at none i = lit< tt
+words-at (more h hs) zero = h
+words-at (more h hs) (suc i) = words-at hs i
+
+pub words-append : {u v : List ℕ} → Words u → Words v → Words (u ++ v)
+words-append none k = k
+words-append (more h hs) k = more h (words-append hs k)
+
+pub words-take : (n : ℕ) {w : List ℕ} → Words w → Words (take n w)
+words-take zero hs = none
+words-take (suc n) none = none
+words-take (suc n) (more h hs) = more h (words-take n hs)
+
+pub words-drop : (n : ℕ) {w : List ℕ} → Words w → Words (drop n w)
+words-drop zero hs = hs
+words-drop (suc n) none = none
+words-drop (suc n) (more h hs) = words-drop n hs
+
+words-set : (i : ℕ) {x : ℕ} {w : List ℕ} → x < 2 ^ 32 → Words w → Words (set w i x)
+words-set i hx none = none
+words-set zero hx (more h hs) = more hx hs
+words-set (suc i) hx (more h hs) = more h (words-set i hx hs)
+
+xor-word : {x y : ℕ} → x < 2 ^ 32 → y < 2 ^ 32 → bitXor x y < 2 ^ 32
+xor-word {x} {y} hx hy = xor-lt 32 x y hx hy
+
+ell-word : {x : ℕ} → x < 2 ^ 32 → ell x < 2 ^ 32
+unfolding ell
+ell-word {x} hx = xor-word (rotr-lt 16 x (lit≤ tt) hx) (omega arith)
+
+rcon-word : (i : ℕ) → rcon i < 2 ^ 32
+unfolding rcon
+rcon-word i =
+    let last = more (lit< tt) (more (lit< tt) (more (lit< tt) (more (lit< tt) none))) in
+    words-at (more (lit< tt) (more (lit< tt) (more (lit< tt) (more (lit< tt) last)))) i
+
+-- both words of a branch are below 2^32
+pub record BranchWords (v : Branch) : Type 0 where
+  pub x : v .x < 2 ^ 32
+  pub y : v .y < 2 ^ 32
+
+quarter-words : (a b : ℕ) {c : ℕ} {v : Branch} → b ≤ 32 → c < 2 ^ 32 → BranchWords v → BranchWords (quarter a b c v)
+unfolding quarter addw
+quarter-words a b {c} {v} hb hc h =
+    let sum = mod-lt (v .x + rotr a (v .y)) (lit< tt) in
+    record { x = xor-word sum hc; y = xor-word (h .y) (rotr-lt b _ hb sum) }
+
+box-words : {c : ℕ} {v : Branch} → c < 2 ^ 32 → BranchWords v → BranchWords (arxBox c v)
+unfolding arxBox
+box-words hc h =
+    quarter-words 24 16 (lit≤ tt) hc
+    (quarter-words 0 31 (lit≤ tt) hc (quarter-words 17 17 (lit≤ tt) hc (quarter-words 31 24 (lit≤ tt) hc h)))
+
+pub words-constants : (s : ℕ) {w : List ℕ} → Words w → Words (constants s w)
+unfolding constants
+words-constants s h =
+    words-set 3 (xor-word (words-at h 3) (mod-lt s (lit< tt)))
+    (words-set 1 (xor-word (words-at h 1) (rcon-word (s % 8))) h)
+
+pub words-boxes : (i : ℕ) {w : List ℕ} → Words w → Words (boxes i w)
+unfolding boxes
+words-boxes i none = none
+words-boxes i (more h none) = more h none
+words-boxes i (more hx (more hy h)) =
+    let box = box-words (rcon-word i) (record { x = hx; y = hy }) in
+    more (box .x) (more (box .y) (words-boxes (suc i) h))
+
+word-xorXs : {acc : ℕ} {w : List ℕ} → acc < 2 ^ 32 → Words w → xorXs acc w < 2 ^ 32
+unfolding xorXs
+word-xorXs ha none = ha
+word-xorXs ha (more hx none) = xor-word ha hx
+word-xorXs ha (more hx (more hy h)) = word-xorXs (xor-word ha hx) h
+
+word-xorYs : {acc : ℕ} {w : List ℕ} → acc < 2 ^ 32 → Words w → xorYs acc w < 2 ^ 32
+unfolding xorYs
+word-xorYs ha none = ha
+word-xorYs ha (more hx none) = ha
+word-xorYs ha (more hx (more hy h)) = word-xorYs (xor-word ha hy) h
+
+pub words-xors : {u v : List ℕ} → Words u → Words v → Words (xors u v)
+unfolding xors
+words-xors none k = none
+words-xors (more h hs) none = none
+words-xors (more h hs) (more k ks) = more (xor-word h k) (words-xors hs ks)
+
+words-xorEach : {a b : ℕ} {w : List ℕ} → a < 2 ^ 32 → b < 2 ^ 32 → Words w → Words (xorEach a b w)
+unfolding xorEach
+words-xorEach ha hb none = none
+words-xorEach ha hb (more hx none) = more (xor-word hx ha) none
+words-xorEach ha hb (more hx (more hy h)) = more (xor-word hx ha) (more (xor-word hy hb) (words-xorEach ha hb h))
+
+words-feistel : {l r : List ℕ} → Words l → Words r → Words (feistel l r)
+unfolding feistel
+words-feistel hl hr =
+    words-xorEach (ell-word (word-xorYs (lit< tt) hl)) (ell-word (word-xorXs (lit< tt) hl)) (words-xors hl hr)
+
+pub words-linear : (b : ℕ) {w : List ℕ} → Words w → Words (linear b w)
+unfolding linear
+words-linear b h =
+    let m = words-feistel (words-take b h) (words-drop b h) in
+    words-append (words-append (words-drop 2 m) (words-take 2 m)) (words-take b h)
+
+pub words-step : (b s : ℕ) {w : List ℕ} → Words w → Words (step b s w)
+unfolding step
+words-step b s h = words-linear b (words-boxes 0 (words-constants s h))
+
+pub words-run : (b s k : ℕ) {w : List ℕ} → Words w → Words (run b s k w)
+unfolding run
+words-run b s zero h = h
+words-run b s (suc k) h = words-run b (suc s) k (words-step b s h)
+
+words-mod : (w : List ℕ) → Words (map (λ x. x % 2 ^ 32) w)
+words-mod [] = none
+words-mod (x ∷ w) = more (mod-lt x (lit< tt)) (words-mod w)
+
+pub words-state : (b : ℕ) (w : List ℕ) → Words (state b w)
+unfolding state
+words-state b w = words-mod (take (b + b) (w ++ replicate (b + b) 0))
+
+pub words-sparkle : (b k : ℕ) (w : List ℕ) → Words (sparkle b k w)
+unfolding sparkle
+words-sparkle b k w = words-run b 0 k (words-state b w)
+
+mod-words : {w : List ℕ} → Words w → map (λ x. x % 2 ^ 32) w ≡ w
+mod-words none = refl
+mod-words (more h hs) = ap₂ (λ (x : ℕ) (l : List ℕ). x ∷ l) (mod-eq-of-lt h) (mod-words hs)
+
+-- a list of b + b words is the state that it stands for
+pub state-of-words : (b : ℕ) (w : List ℕ) → length w ≡ b + b → Words w → state b w ≡ w
+unfolding state
+state-of-words b w h hs =
+    ap (map (λ x. x % 2 ^ 32)) (take-append-le (b + b) w (replicate (b + b) 0) (omega arith) ∙ take-all (b + b) w (omega arith))
+    ∙ mod-words hs
+
+-- the permutation on an array, from a run on its first words
+pub sparkle-in : (b k : ℕ) (w v : List ℕ) → b + b ≤ length w → Words w → v ≡ run b 0 k (take (b + b) w) → v ++ drop (b + b) w ≡ sparkleIn b k w
+unfolding sparkle sparkleIn
+sparkle-in b k w v h hs e =
+    ap (λ (l : List ℕ). l ++ drop (b + b) w)
+    (e ∙ ap (run b 0 k) (sym (state-of-words b (take (b + b) w) (length-take-le (b + b) w h) (words-take (b + b) hs))))
+
+-- the same where the array is the state
+pub sparkle-whole : (b k : ℕ) (w : List ℕ) → length w ≡ b + b → Words w → run b 0 k w ≡ sparkleIn b k w
+sparkle-whole b k w h hs =
+    let short : length w ≤ b + b = omega arith in
+    sym (append-nil (run b 0 k w))
+    ∙ ap (λ (l : List ℕ). run b 0 k w ++ l) (sym (drop-of-length-le w short))
+    ∙ sparkle-in b k w (run b 0 k w) (omega arith) hs (ap (run b 0 k) (sym (take-all (b + b) w short)))

@@ -1,0 +1,7 @@
+-- The laws that the proofs of `sparkle`, and of the crates above it, cite.
+pub mod Tab
+pub mod Xor
+pub mod Rotate
+pub mod Lengths
+pub mod Bounds
+pub mod Runs

@@ -1,0 +1,3 @@
+-- The definitions that the contracts of `sparkle` cite.
+pub mod Words
+pub mod Sparkle

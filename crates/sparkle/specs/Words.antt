@@ -1,0 +1,15 @@
+-- Operations on 32-bit words, as arithmetic on natural numbers (document 01, "Down to the words").
+use Prim.Native.Nat.{ℕ, _+_, _-_, _*_, _/_, _%_, _^_}
+use lib.Bits.{bitXor}
+
+-- The sum of two words, without its carry out of 32 bits.
+unfoldable pub addw : ℕ → ℕ → ℕ
+addw x y = (x + y) % 2 ^ 32
+
+-- The word x rotated right by n bits, for n up to 32: its low n bits come to stand above the others.
+unfoldable pub rotr : ℕ → ℕ → ℕ
+rotr n x = x % 2 ^ n * 2 ^ (32 - n) + x / 2 ^ n
+
+-- ell(x) = (x rotated by 16) xor (x mod 65536).
+unfoldable pub ell : ℕ → ℕ
+ell x = bitXor (rotr 16 x) (x % 65536)

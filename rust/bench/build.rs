@@ -1,0 +1,46 @@
+//! Links the port's archive `libsparkle_bench.a` and cuts the scalar
+//! permutation out of engine.rs for the copies of known size. The archive is
+//! looked for in the repository's target/staticlib, or in the folder that
+//! `SPARKLE_BENCH_DIR` names.
+
+use std::env;
+use std::path::{Path, PathBuf};
+use std::process::exit;
+
+#[path = "../oracle/tc_sparkle_aead/cut.rs"]
+mod cut;
+
+fn main() {
+    if let Err(message) = scalar().and_then(|()| link()) {
+        eprintln!("cannot build the benchmark: {message}");
+        exit(1);
+    }
+}
+
+/// Writes the text of the scalar permutation to the build's output folder.
+fn scalar() -> Result<(), String> {
+    let engine = repository().join("docs/src/tc_sparkle_aead/src/engine.rs");
+    println!("cargo:rerun-if-changed={}", engine.display());
+    let out = env::var_os("OUT_DIR").expect("cargo sets OUT_DIR");
+    cut::write_scalar(&engine, Path::new(&out))
+}
+
+/// Names the archive to the linker.
+fn link() -> Result<(), String> {
+    println!("cargo:rerun-if-env-changed=SPARKLE_BENCH_DIR");
+    let folder = env::var_os("SPARKLE_BENCH_DIR")
+        .map_or_else(|| repository().join("target/staticlib"), PathBuf::from);
+    let archive = folder.join("libsparkle_bench.a");
+    println!("cargo:rerun-if-changed={}", archive.display());
+    if !archive.is_file() {
+        return Err(format!("the archive {} is not there", archive.display()));
+    }
+    println!("cargo:rustc-link-search=native={}", folder.display());
+    println!("cargo:rustc-link-lib=static=sparkle_bench");
+    Ok(())
+}
+
+/// The repository's root.
+fn repository() -> PathBuf {
+    Path::new(env!("CARGO_MANIFEST_DIR")).join("../..")
+}
