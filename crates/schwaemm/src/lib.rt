@@ -1,0 +1,1 @@
+// No code: the specification of Schwaemm (specs/) and its laws (proofs/).
