@@ -27,4 +27,3 @@ v256-256-32-32 = refl
 v256-256-0-0 : seal schwaemm256-256 (0 ∷ 1 ∷ 2 ∷ 3 ∷ 4 ∷ 5 ∷ 6 ∷ 7 ∷ 8 ∷ 9 ∷ 10 ∷ 11 ∷ 12 ∷ 13 ∷ 14 ∷ 15 ∷ 16 ∷ 17 ∷ 18 ∷ 19 ∷ 20 ∷ 21 ∷ 22 ∷ 23 ∷ 24 ∷ 25 ∷ 26 ∷ 27 ∷ 28 ∷ 29 ∷ 30 ∷ 31 ∷ []) (0 ∷ 1 ∷ 2 ∷ 3 ∷ 4 ∷ 5 ∷ 6 ∷ 7 ∷ 8 ∷ 9 ∷ 10 ∷ 11 ∷ 12 ∷ 13 ∷ 14 ∷ 15 ∷ 16 ∷ 17 ∷ 18 ∷ 19 ∷ 20 ∷ 21 ∷ 22 ∷ 23 ∷ 24 ∷ 25 ∷ 26 ∷ 27 ∷ 28 ∷ 29 ∷ 30 ∷ 31 ∷ []) ([]) ([]) ≡ (30 ∷ 65 ∷ 195 ∷ 144 ∷ 73 ∷ 80 ∷ 16 ∷ 97 ∷ 164 ∷ 128 ∷ 52 ∷ 29 ∷ 200 ∷ 85 ∷ 31 ∷ 60 ∷ 206 ∷ 23 ∷ 25 ∷ 0 ∷ 235 ∷ 143 ∷ 144 ∷ 186 ∷ 92 ∷ 84 ∷ 178 ∷ 167 ∷ 204 ∷ 43 ∷ 253 ∷ 242 ∷ [])
 unfolding addw rotr ell rcon quarter arxBox constants boxes xorXs xorYs xors xorEach feistel linear step run state sparkle toWords toBytes ifEmpty ready after given outer inner permute feistelSwap rho1 whitening mix crypt padded domain withDomain lastV mixLast initialise leading absorbBlock absorb prepared sealing messageBlock beforeLast lastBlock message crypted tagOf encrypt tag seal
 v256-256-0-0 = refl
-

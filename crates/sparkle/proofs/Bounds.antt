@@ -52,7 +52,7 @@ xor-word {x} {y} hx hy = xor-lt 32 x y hx hy
 
 ell-word : {x : ℕ} → x < 2 ^ 32 → ell x < 2 ^ 32
 unfolding ell
-ell-word {x} hx = xor-word (rotr-lt 16 x (lit≤ tt) hx) (omega arith)
+ell-word {x} hx = xor-word (rotr-lt 16 (lit≤ tt) x hx) (omega arith)
 
 rcon-word : (i : ℕ) → rcon i < 2 ^ 32
 unfolding rcon
@@ -69,7 +69,7 @@ quarter-words : (a b : ℕ) {c : ℕ} {v : Branch} → b ≤ 32 → c < 2 ^ 32 �
 unfolding quarter addw
 quarter-words a b {c} {v} hb hc h =
     let sum = mod-lt (v .x + rotr a (v .y)) (lit< tt) in
-    record { x = xor-word sum hc; y = xor-word (h .y) (rotr-lt b _ hb sum) }
+    record { x = xor-word sum hc; y = xor-word (h .y) (rotr-lt b hb _ sum) }
 
 box-words : {c : ℕ} {v : Branch} → c < 2 ^ 32 → BranchWords v → BranchWords (arxBox c v)
 unfolding arxBox

@@ -5,3 +5,6 @@ pub mod Rotate
 pub mod Lengths
 pub mod Bounds
 pub mod Runs
+pub mod Arrays
+pub mod LaneLaws
+pub mod WorkedExamples

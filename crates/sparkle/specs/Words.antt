@@ -6,6 +6,10 @@ use lib.Bits.{bitXor}
 unfoldable pub addw : ℕ → ℕ → ℕ
 addw x y = (x + y) % 2 ^ 32
 
+-- The word x shifted left by n bits, without what passes 32 bits.
+unfoldable pub shlw : ℕ → ℕ → ℕ
+shlw n x = x * 2 ^ n % 2 ^ 32
+
 -- The word x rotated right by n bits, for n up to 32: its low n bits come to stand above the others.
 unfoldable pub rotr : ℕ → ℕ → ℕ
 rotr n x = x % 2 ^ n * 2 ^ (32 - n) + x / 2 ^ n

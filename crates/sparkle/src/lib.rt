@@ -1,2 +1,4 @@
-// The Sparkle permutation (document 01, "Down to the words").
+// The Sparkle permutation (document 01, "Down to the words"), in two forms: word by word, and in
+// four groups of four words.
 pub mod scalar;
+pub mod sse2;

@@ -6,21 +6,21 @@ ghost use Rattle.sparkle.specs.Words.{rotr, ell};
 ghost use Rattle.sparkle.specs.Sparkle.{rcon, quarter, arxBox, boxes, linear, step, run, sparkleIn, branches};
 
 // The round constants, RCON in the Rust.
-const RCON0: u32 = 0xb7e1_5162;
+pub(crate) const RCON0: u32 = 0xb7e1_5162;
 
-const RCON1: u32 = 0xbf71_5880;
+pub(crate) const RCON1: u32 = 0xbf71_5880;
 
-const RCON2: u32 = 0x38b4_da56;
+pub(crate) const RCON2: u32 = 0x38b4_da56;
 
-const RCON3: u32 = 0x324e_7738;
+pub(crate) const RCON3: u32 = 0x324e_7738;
 
-const RCON4: u32 = 0xbb11_85eb;
+pub(crate) const RCON4: u32 = 0xbb11_85eb;
 
-const RCON5: u32 = 0x4f7c_7b57;
+pub(crate) const RCON5: u32 = 0x4f7c_7b57;
 
-const RCON6: u32 = 0xcfbf_a1c8;
+pub(crate) const RCON6: u32 = 0xcfbf_a1c8;
 
-const RCON7: u32 = 0xc2b3_293d;
+pub(crate) const RCON7: u32 = 0xc2b3_293d;
 
 // How many words of the array are the state.
 pub enum StateWords {
@@ -54,7 +54,7 @@ fn ell(x: u32) -> u32
 }
 
 // RCON[s % 8], by a match: an array indexed at run time would be copied to the stack at each step.
-fn round_constant(s: u32) -> u32
+pub(crate) fn round_constant(s: u32) -> u32
     ensures { λ r. ⌜ r ≡ rcon (s % 8) ⌝ }
 {
     let k = s % 8;

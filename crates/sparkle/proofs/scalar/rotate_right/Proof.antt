@@ -1,31 +1,19 @@
-use borrow.Author.Needs.{needs}
+-- `rotate_right` rotates: the two shifts of a rotation join, and a rotation by 0 is nothing.
 use mathlib.Core.Path.{sym}
+use Prim.Native.Nat.{_%_}
 use native.Mathlib.Omega.{arith}
+use borrow.Author.Needs.{needs}
+use Rattle.sparkle.specs.Words.{shlw}
 use Rattle.sparkle.proofs.Rotate.{or-rotr, rotr-zero}
 use Rattle.sparkle.proofs.scalar.rotate_right.Statement.{statement}
 use Rattle.sparkle.proofs.scalar.rotate_right.Tie as tie
-use Rattle.sparkle.proofs.scalar.rotate_right.Reads as reads
-use Rattle.sparkle.proofs.scalar.rotate_right.Lts as lts
 
--- src/scalar.rt:46:10
-shr-result : tie.Need-shr-result
-shr-result c = search needs
-
--- src/scalar.rt:46:27
-sub-result : tie.Need-sub-result
-sub-result c = search needs
-
--- src/scalar.rt:46:21
-shl-result : tie.Need-shl-result
-shl-result c = search needs
-
--- src/scalar.rt:39:1
 returns : tie.Need-returns
 returns c = rw (c .if1 .taken) (sym (rotr-zero _))
 
--- src/scalar.rt:39:1
 returns-2 : tie.Need-returns-2
-returns-2 c = or-rotr _ _ (omega arith) (c .before .fits .x .fits)
+unfolding shlw
+returns-2 c = or-rotr (c .before .args .n % 32) (omega arith) _ (c .before .fits .x .fits)
 
 pub rotate-right-spec : {M : Type 1} → statement M
-rotate-right-spec = tie.close (tie.spec shr-result sub-result shl-result returns returns-2)
+rotate-right-spec = tie.close (tie.spec (λ c. search needs) (λ c. search needs) (λ c. search needs) returns returns-2)

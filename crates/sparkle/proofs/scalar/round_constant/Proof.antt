@@ -1,11 +1,10 @@
+-- `round_constant` gives RCON[s % 8]: each arm by its number, the last by what is left.
 use mathlib.Core.Path.{_≡_, refl}
 use Prim.Native.Nat.{ℕ, _%_, _≤_, _<_}
 use native.Mathlib.Omega.{arith}
 use Rattle.sparkle.specs.Sparkle.{rcon}
 use Rattle.sparkle.proofs.scalar.round_constant.Statement.{statement}
 use Rattle.sparkle.proofs.scalar.round_constant.Tie as tie
-use Rattle.sparkle.proofs.scalar.round_constant.Reads as reads
-use Rattle.sparkle.proofs.scalar.round_constant.Lts as lts
 
 -- what is left for the last arm, in two halves
 four-or-more : (k : ℕ) → (k ≡ 0 → ⊥) → (k ≡ 1 → ⊥) → (k ≡ 2 → ⊥) → (k ≡ 3 → ⊥) → 4 ≤ k
@@ -14,42 +13,34 @@ four-or-more k a b c d = omega arith
 seven-of-eight : (k : ℕ) → k < 8 → 4 ≤ k → (k ≡ 4 → ⊥) → (k ≡ 5 → ⊥) → (k ≡ 6 → ⊥) → k ≡ 7
 seven-of-eight k h four a b c = omega arith
 
--- src/scalar.rt:57:1
 returns : tie.Need-returns
 unfolding rcon
 returns c = rw (c .match .keys1) refl
 
--- src/scalar.rt:57:1
 returns-2 : tie.Need-returns-2
 unfolding rcon
 returns-2 c = rw (c .match .keys2) refl
 
--- src/scalar.rt:57:1
 returns-3 : tie.Need-returns-3
 unfolding rcon
 returns-3 c = rw (c .match .keys3) refl
 
--- src/scalar.rt:57:1
 returns-4 : tie.Need-returns-4
 unfolding rcon
 returns-4 c = rw (c .match .keys4) refl
 
--- src/scalar.rt:57:1
 returns-5 : tie.Need-returns-5
 unfolding rcon
 returns-5 c = rw (c .match .keys5) refl
 
--- src/scalar.rt:57:1
 returns-6 : tie.Need-returns-6
 unfolding rcon
 returns-6 c = rw (c .match .keys6) refl
 
--- src/scalar.rt:57:1
 returns-7 : tie.Need-returns-7
 unfolding rcon
 returns-7 c = rw (c .match .keys7) refl
 
--- src/scalar.rt:57:1
 returns-8 : tie.Need-returns-8
 unfolding rcon
 returns-8 c =

@@ -1,13 +1,10 @@
+-- `run12` runs `count` steps. The invariant: the steps that are left, run on what is there, give what was to come.
 use mathlib.Core.Path.{_≡_, refl, _∙_}
 use native.Mathlib.Omega.{arith}
 use Rattle.sparkle.specs.Sparkle.{run}
 use Rattle.sparkle.proofs.Runs.{run-turn, run-none}
 use Rattle.sparkle.proofs.scalar.run12.Statement.{statement}
 use Rattle.sparkle.proofs.scalar.run12.Tie as tie
-use Rattle.sparkle.proofs.scalar.run12.Reads as reads
-use Rattle.sparkle.proofs.scalar.run12.Lts as lts
-use Rattle.sparkle.proofs.scalar.step12.Reads as step12-reads
-use Rattle.std.proofs.num.wrapping_add_u32.Reads as wrapping-add-u32-reads
 
 abbrev Inv-loop : tie.InvT-loop
 Inv-loop first count v₀ s₀ left₀ v s left = run 6 s left v ≡ run 6 first count v₀
@@ -15,33 +12,14 @@ Inv-loop first count v₀ s₀ left₀ v s left = run 6 s left v ≡ run 6 first
 abbrev μ-loop : tie.MeasureT-loop
 μ-loop first count v₀ s₀ left₀ v s left = left
 
--- src/scalar.rt:207:5
 loop-holds : tie.Need-loop-holds Inv-loop μ-loop
 loop-holds c = refl
 
--- src/scalar.rt:208:13
-step12-requires : tie.Need-step12-requires Inv-loop μ-loop
-step12-requires c κs = tt
-
--- src/scalar.rt:210:9
-wrapping-add-u32-requires : tie.Need-wrapping-add-u32-requires Inv-loop μ-loop
-wrapping-add-u32-requires c κs = tt
-
--- src/scalar.rt:211:9
-sub-left : tie.Need-sub-left Inv-loop μ-loop
-sub-left c = omega arith
-
--- src/scalar.rt:207:5
-loop-less : tie.Need-loop-less Inv-loop μ-loop
-loop-less c = omega arith
-
--- src/scalar.rt:207:5
 loop-again : tie.Need-loop-again Inv-loop μ-loop
 loop-again c =
     rw (c .before .step12 .ensures, c .wrapping-add-u32 .ensures)
     (run-turn 6 _ _ _ (c .before .before .loop-test .taken) ∙ c .before .before .before .loop .inv)
 
--- src/scalar.rt:201:1
 returns : tie.Need-returns Inv-loop μ-loop
 returns c = run-none 6 _ _ _ (c .loop-test .left) ∙ c .before .loop .inv
 
@@ -52,9 +30,9 @@ run12-spec =
     Inv-loop
     μ-loop
     loop-holds
-    step12-requires
-    wrapping-add-u32-requires
-    sub-left
-    loop-less
+    (λ c κs. tt)
+    (λ c κs. tt)
+    (λ c. omega arith)
+    (λ c. omega arith)
     loop-again
     returns)
