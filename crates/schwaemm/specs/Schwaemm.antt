@@ -20,14 +20,15 @@ pub record Params : Type 0 where
   pub slim : ℕ
   pub big : ℕ
 
--- What the sizes must meet: whole branches in rate and capacity, and capacity words that reach the rate's when they
--- are repeated once.
+-- What the sizes must meet: whole branches in rate and capacity, capacity words that reach the rate's when they are
+-- repeated once, and a domain constant that is a word.
 pub record Sizes (p : Params) : Type 0 where
   pub rate-positive : 0 < p .rate
   pub key-positive : 0 < p .key
   pub rate-branches : p .rate % 8 ≡ 0
   pub key-branches : p .key % 8 ≡ 0
   pub rate-reached : p .rate ≤ p .key + p .key
+  pub key-small : p .key < 64
 
 -- Document 01's variants 1 to 4.
 abbrev pub schwaemm128-128 : Params

@@ -1,1 +1,1 @@
-// No code.
+// No code: known answers of the specification of Schwaemm (proofs/).

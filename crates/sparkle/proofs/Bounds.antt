@@ -42,7 +42,7 @@ words-drop zero hs = hs
 words-drop (suc n) none = none
 words-drop (suc n) (more h hs) = words-drop n hs
 
-words-set : (i : ℕ) {x : ℕ} {w : List ℕ} → x < 2 ^ 32 → Words w → Words (set w i x)
+pub words-set : (i : ℕ) {x : ℕ} {w : List ℕ} → x < 2 ^ 32 → Words w → Words (set w i x)
 words-set i hx none = none
 words-set zero hx (more h hs) = more hx hs
 words-set (suc i) hx (more h hs) = more h (words-set i hx hs)
