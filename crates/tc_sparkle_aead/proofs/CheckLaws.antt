@@ -1,0 +1,78 @@
+-- The laws of the checks: under which hypothesis a definition of `specs.Checks` gives which answer.
+use mathlib.Core.Path.{_≡_, refl}
+use mathlib.Core.Bool.{Bool, true, false, cond}
+use Prim.Native.Nat.{ℕ, _+_, _-_, _*_, _^_, _≤_, _<_}
+use native.Mathlib.Omega.{arith}
+use borrow.Author.Tests.{lt-ltb, le-ltb, eq-eqb, ne-eqb}
+use Rattle.schwaemm.specs.Blocks.{ready}
+use Rattle.schwaemm.specs.Schwaemm.{Params}
+use Rattle.tc_sparkle_aead.specs.Checks.{opens, opening, heldIn, keep, updateLen, totalLen, startCheck}
+use Rattle.tc_sparkle_aead.specs.declared.phase.Direction.{Direction}
+use Rattle.tc_sparkle_aead.specs.declared.phase.Phase.{Phase}
+use Rattle.tc_sparkle_aead.specs.declared.aead_error.AeadError.the-variants.{InputTooLong}
+use Rattle.tc_sparkle_aead.specs.declared.aead_error.AeadResult.{AeadResult}
+use Rattle.tc_sparkle_aead.specs.declared.aead_error.AeadResult.the-variants.{Ok, Err}
+use Rattle.tc_sparkle_aead.specs.declared.aead_init_error.AeadInitError.the-variants.{InvalidKeyLength, InvalidNonceLength, InvalidMacSize, NonceReuse}
+use Rattle.tc_sparkle_aead.specs.declared.aead_init_error.AeadInitResult.the-variants.{Ok as Started, Err as Refused}
+
+cond-same : (b : Bool) {x : AeadResult} → cond b x x ≡ x
+cond-same true = refl
+cond-same false = refl
+
+module _ (p : Params) (phase : Phase) (held n : ℕ) where
+  -- update_output_len: 7, or the bytes of the blocks that are ready.
+  pub updateLen-over : 2 ^ 64 ≤ heldIn p phase held + n → updateLen p phase held n ≡ Err InputTooLong
+  unfolding updateLen
+  updateLen-over over = rw (le-ltb _ _ over) refl
+
+  pub updateLen-fits : heldIn p phase held + n < 2 ^ 64
+      → updateLen p phase held n ≡ Ok (ready (p .rate) (keep p phase) (heldIn p phase held + n) * p .rate)
+  unfolding updateLen
+  updateLen-fits fits = rw (lt-ltb _ _ fits) refl
+
+  -- output_len: 7, or the sum, less the tag on an opening and with the tag otherwise.
+  pub totalLen-over : 2 ^ 64 ≤ heldIn p phase held + n → totalLen p phase held n ≡ Err InputTooLong
+  unfolding totalLen
+  totalLen-over over =
+      rw (le-ltb _ _ over, le-ltb (heldIn p phase held + n + p .key) (2 ^ 64) (omega arith)) (cond-same (opening phase))
+
+  pub totalLen-opening : opening phase ≡ true → heldIn p phase held + n < 2 ^ 64
+      → totalLen p phase held n ≡ Ok (heldIn p phase held + n - p .key)
+  unfolding totalLen
+  totalLen-opening is-opening fits = rw (is-opening, lt-ltb _ _ fits) refl
+
+  pub totalLen-sealing-over : opening phase ≡ false → 2 ^ 64 ≤ heldIn p phase held + n + p .key
+      → totalLen p phase held n ≡ Err InputTooLong
+  unfolding totalLen
+  totalLen-sealing-over is-sealing over = rw (is-sealing, le-ltb _ _ over) refl
+
+  pub totalLen-sealing : opening phase ≡ false → heldIn p phase held + n + p .key < 2 ^ 64
+      → totalLen p phase held n ≡ Ok (heldIn p phase held + n + p .key)
+  unfolding totalLen
+  totalLen-sealing is-sealing fits = rw (is-sealing, lt-ltb _ _ fits) refl
+
+module _ (p : Params) (direction : Direction) (key nonce size : ℕ) (repeats : Bool) where
+  -- A start: 1, 2, 3 in this order; what is left is the direction's and the pair's to say.
+  pub startCheck-key : (key ≡ p .key → ⊥) → startCheck p direction key nonce size repeats ≡ Refused (InvalidKeyLength key)
+  unfolding startCheck
+  startCheck-key wrong = rw (ne-eqb _ _ wrong) refl
+
+  pub startCheck-nonce : key ≡ p .key → (nonce ≡ p .rate → ⊥)
+      → startCheck p direction key nonce size repeats ≡ Refused (InvalidNonceLength nonce)
+  unfolding startCheck
+  startCheck-nonce k wrong = rw (eq-eqb _ _ k, ne-eqb _ _ wrong) refl
+
+  pub startCheck-size : key ≡ p .key → nonce ≡ p .rate → (size ≡ p .key → ⊥)
+      → startCheck p direction key nonce size repeats ≡ Refused (InvalidMacSize size)
+  unfolding startCheck
+  startCheck-size k n wrong = rw (eq-eqb _ _ k, eq-eqb _ _ n, ne-eqb _ _ wrong) refl
+
+  module _ (k : key ≡ p .key) (n : nonce ≡ p .rate) (s : size ≡ p .key) where
+    pub startCheck-opening : opens direction ≡ true → startCheck p direction key nonce size repeats ≡ Started
+    unfolding startCheck
+    startCheck-opening is-opening = rw (eq-eqb _ _ k, eq-eqb _ _ n, eq-eqb _ _ s, is-opening) refl
+
+    pub startCheck-sealing : opens direction ≡ false
+        → startCheck p direction key nonce size repeats ≡ cond repeats (Refused NonceReuse) Started
+    unfolding startCheck
+    startCheck-sealing is-sealing = rw (eq-eqb _ _ k, eq-eqb _ _ n, eq-eqb _ _ s, is-sealing) refl

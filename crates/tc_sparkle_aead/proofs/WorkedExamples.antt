@@ -1,0 +1,87 @@
+-- The lines of document 01, "Worked by hand", that are marked P, as one table on the definitions that the calls'
+-- contracts cite, and the one theorem that proves it.
+use mathlib.Core.Path.{_≡_, refl}
+use mathlib.Core.List.{[], _∷_}
+use Prim.Native.Nat.{ℕ, zero-le, _-_, _^_}
+use borrow.Author.Tests.{le-ltb}
+use Rattle.sparkle.specs.Words.{ell, rotr}
+use Rattle.schwaemm.specs.Blocks.{ready}
+use Rattle.schwaemm.specs.Schwaemm.{domain, leading, stepsOf, steps}
+use Rattle.tc_sparkle_aead.specs.Variant.{paramsOf}
+use Rattle.tc_sparkle_aead.specs.Refusals.{refusal}
+use Rattle.tc_sparkle_aead.specs.Checks.{updateLen, totalLen, endCheck}
+use Rattle.tc_sparkle_aead.specs.Engine.{noMessage, newEngine, updateOutputLen, outputLen}
+use Rattle.tc_sparkle_aead.specs.declared.variant.SparkleVariant.{SparkleVariant}
+use Rattle.tc_sparkle_aead.specs.declared.variant.SparkleVariant.the-variants.{«Schwaemm128_128», «Schwaemm256_128», «Schwaemm192_192», «Schwaemm256_256»}
+use Rattle.tc_sparkle_aead.specs.declared.phase.Direction.the-variants.{Encrypt, Decrypt}
+use Rattle.tc_sparkle_aead.specs.declared.phase.Phase.{Phase}
+use Rattle.tc_sparkle_aead.specs.declared.phase.Phase.the-variants.{Uninitialized, Init, Aad}
+use Rattle.tc_sparkle_aead.specs.declared.engine.SparkleEngine.{SparkleEngine}
+use Rattle.tc_sparkle_aead.specs.declared.aead_error.AeadError.the-variants.{CiphertextTooShort, InputTooLong}
+use Rattle.tc_sparkle_aead.specs.declared.aead_error.AeadResult.the-variants.{Ok, Err}
+
+-- An engine of a variant that stands in a phase, whatever else it holds.
+pub record In (v : SparkleVariant) (phase : Phase) (e : SparkleEngine) : Type 0 where
+  pub variant : e .variant ≡ v
+  pub phase-is : e .current .phase ≡ phase
+
+pub record WorkedExamples : Type 0 where
+  -- Sealing, variant 1, new message: update_output_len of 0, 16, 17 is 0, 0, 16.
+  pub sealing-0 : (e : SparkleEngine) → In «Schwaemm128_128» (Init Encrypt) e → updateOutputLen e 0 ≡ Ok 0
+  pub sealing-16 : (e : SparkleEngine) → In «Schwaemm128_128» (Init Encrypt) e → updateOutputLen e 16 ≡ Ok 0
+  pub sealing-17 : (e : SparkleEngine) → In «Schwaemm128_128» (Init Encrypt) e → updateOutputLen e 17 ≡ Ok 16
+  -- Opening, variant 1: 32 gives 0, 33 gives 16. Variant 2: 48 gives 0, 49 gives 32.
+  pub opening-32 : (e : SparkleEngine) → In «Schwaemm128_128» (Init Decrypt) e → updateOutputLen e 32 ≡ Ok 0
+  pub opening-33 : (e : SparkleEngine) → In «Schwaemm128_128» (Init Decrypt) e → updateOutputLen e 33 ≡ Ok 16
+  pub opening-48 : (e : SparkleEngine) → In «Schwaemm256_128» (Init Decrypt) e → updateOutputLen e 48 ≡ Ok 0
+  pub opening-49 : (e : SparkleEngine) → In «Schwaemm256_128» (Init Decrypt) e → updateOutputLen e 49 ≡ Ok 32
+  -- Uninitialized, variant 1: output_len(2^64 - 17) = 2^64 - 1; of 2^64 - 16, refusal 7. So of a new engine.
+  pub longest : (e : SparkleEngine) → In «Schwaemm128_128» Uninitialized e
+      → outputLen e (2 ^ 64 - 17) ≡ Ok (2 ^ 64 - 1)
+  pub too-long : (e : SparkleEngine) → In «Schwaemm128_128» Uninitialized e
+      → outputLen e (2 ^ 64 - 16) ≡ Err InputTooLong
+  pub too-long-number : refusal InputTooLong ≡ 7 ∷ []
+  pub longest-new : outputLen (newEngine «Schwaemm128_128») (2 ^ 64 - 17) ≡ Ok (2 ^ 64 - 1)
+  pub too-long-new : outputLen (newEngine «Schwaemm128_128») (2 ^ 64 - 16) ≡ Err InputTooLong
+  -- ell(1) = 65537; ell(0x00010002) = 0x00020003.
+  pub ell-1 : ell 1 ≡ 65537
+  pub ell-10002 : ell 0x00010002 ≡ 0x00020003
+  -- Header constants (v = 0), variants 1 and 3: 0x04000000, 0x08000000.
+  pub header-constant-1 : domain (paramsOf «Schwaemm128_128») 0 ≡ 0x04000000
+  pub header-constant-3 : domain (paramsOf «Schwaemm192_192») 0 ≡ 0x08000000
+  -- Steps: variant 1, header 20, message 33: 51; both empty: 10; 16 and 16: 30. Variant 4, header 33, message 32: 44.
+  pub steps-20-33 : steps (paramsOf «Schwaemm128_128») 20 33 ≡ 51
+  pub steps-empty : steps (paramsOf «Schwaemm128_128») 0 0 ≡ 10
+  pub steps-16-16 : steps (paramsOf «Schwaemm128_128») 16 16 ≡ 30
+  pub steps-33-32 : steps (paramsOf «Schwaemm256_256») 33 32 ≡ 44
+  -- Opening, variant 1, header of 16, end: 5 with 16 and 0, into an output of any length.
+  pub end-too-short : (held available : ℕ)
+      → endCheck (paramsOf «Schwaemm128_128») (Aad Decrypt) held available ≡ Err (CiphertextTooShort 16 0)
+  pub end-too-short-number : refusal (CiphertextTooShort 16 0) ≡ 5 ∷ (16 ∷ (0 ∷ []))
+
+pub worked-examples : WorkedExamples
+unfolding ready updateLen totalLen endCheck noMessage newEngine updateOutputLen outputLen ell rotr domain leading stepsOf steps
+worked-examples = record {
+  sealing-0 = λ e s. rw (s .variant, s .phase-is) refl;
+  sealing-16 = λ e s. rw (s .variant, s .phase-is) refl;
+  sealing-17 = λ e s. rw (s .variant, s .phase-is) refl;
+  opening-32 = λ e s. rw (s .variant, s .phase-is) refl;
+  opening-33 = λ e s. rw (s .variant, s .phase-is) refl;
+  opening-48 = λ e s. rw (s .variant, s .phase-is) refl;
+  opening-49 = λ e s. rw (s .variant, s .phase-is) refl;
+  longest = λ e s. rw (s .variant, s .phase-is) refl;
+  too-long = λ e s. rw (s .variant, s .phase-is) refl;
+  too-long-number = refl;
+  longest-new = refl;
+  too-long-new = refl;
+  ell-1 = refl;
+  ell-10002 = refl;
+  header-constant-1 = refl;
+  header-constant-3 = refl;
+  steps-20-33 = refl;
+  steps-empty = refl;
+  steps-16-16 = refl;
+  steps-33-32 = refl;
+  end-too-short = λ held available. rw (le-ltb available 0 zero-le) refl;
+  end-too-short-number = refl;
+}

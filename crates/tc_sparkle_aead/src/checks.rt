@@ -1,0 +1,249 @@
+// The checks, as decisions of their own, and the length queries over phase and numbers: document
+// 01's tables ("At the entry: phase and call"). Sums are compared by subtraction.
+ghost use mathlib.Core.Path.{_≡_};
+ghost use Rattle.tc_sparkle_aead.specs.Variant.{paramsOf};
+ghost use Rattle.tc_sparkle_aead.specs.Checks.{opens, opening, heldIn, keep, then, updateLen, totalLen, phaseCheck, room, whole, headerCheck, aadCheck, dataCheck, endCheck, startCheck};
+ghost use Rattle.schwaemm.specs.Blocks.{ready};
+ghost use Prim.Native.Nat.{_-_, _*_, min};
+use super::aead_error::AeadError;
+use super::aead_error::AeadResult;
+use super::aead_init_error::AeadInitError;
+use super::aead_init_error::AeadInitResult;
+use super::phase::Direction;
+use super::phase::Phase;
+use super::variant::SparkleVariant;
+
+fn opens(d: Direction) -> bool
+    ensures { λ r. ⌜ r ≡ opens d ⌝ }
+{
+    match d {
+        Direction::Encrypt => false,
+        Direction::Decrypt => true,
+    }
+}
+
+// Whether a phase opens.
+pub fn opening(phase: Phase) -> bool
+    ensures { λ r. ⌜ r ≡ opening phase ⌝ }
+{
+    match phase {
+        Phase::Uninitialized => false,
+        Phase::Init(d) => opens(d),
+        Phase::Aad(d) => opens(d),
+        Phase::Data(d) => opens(d),
+        Phase::Final(d) => opens(d),
+    }
+}
+
+// The bytes that stay, besides one more: on an opening the tag's.
+pub fn keep(variant: SparkleVariant, phase: Phase) -> usize
+    ensures { λ r. ⌜ r ≡ keep (paramsOf variant) phase ⌝ }
+{
+    if opening(phase) {
+        variant.tag_bytes()
+    } else {
+        0
+    }
+}
+
+// The lesser of two numbers.
+pub fn least(a: usize, b: usize) -> usize
+    ensures { λ r. ⌜ r ≡ min a b ⌝ }
+{
+    if a < b { a } else { b }
+}
+
+// The held bytes h of document 01: 0 outside Data.
+pub fn held_in(variant: SparkleVariant, phase: Phase, held: usize) -> usize
+    ensures { λ r. ⌜ r ≡ heldIn (paramsOf variant) phase held ⌝ }
+{
+    match phase {
+        Phase::Uninitialized => 0,
+        Phase::Init(_) => 0,
+        Phase::Aad(_) => 0,
+        Phase::Data(_) => least(held, keep(variant, phase) + variant.nonce_bytes()),
+        Phase::Final(_) => 0,
+    }
+}
+
+// a - b, never under 0.
+fn saturating_sub(a: usize, b: usize) -> usize
+    ensures { λ r. ⌜ r ≡ a - b ⌝ }
+{
+    if a < b { 0 } else { a - b }
+}
+
+// How many of n bytes may go in blocks while `keep` bytes and one more stay.
+fn ready_bytes(rate: usize, keep: usize, n: usize) -> usize
+    ensures { λ r. ⌜ r ≡ ready rate keep n * rate ⌝ }
+{
+    let most = saturating_sub(saturating_sub(n, keep), 1);
+    if rate == 0 { 0 } else { most - most % rate }
+}
+
+// The length that a data call of n bytes writes.
+pub fn update_len(variant: SparkleVariant, phase: Phase, held: usize, n: usize) -> AeadResult
+    ensures { λ r. ⌜ r ≡ updateLen (paramsOf variant) phase held n ⌝ }
+{
+    let h = held_in(variant, phase, held);
+    if usize::MAX - h < n {
+        return AeadResult::Err(AeadError::InputTooLong);
+    }
+    AeadResult::Ok(ready_bytes(variant.nonce_bytes(), keep(variant, phase), h + n))
+}
+
+// The length that data calls of n bytes and the end write together.
+pub fn total_len(variant: SparkleVariant, phase: Phase, held: usize, n: usize) -> AeadResult
+    ensures { λ r. ⌜ r ≡ totalLen (paramsOf variant) phase held n ⌝ }
+{
+    let h = held_in(variant, phase, held);
+    if usize::MAX - h < n {
+        return AeadResult::Err(AeadError::InputTooLong);
+    }
+    let tag = variant.tag_bytes();
+    let sum = h + n;
+    if opening(phase) {
+        return AeadResult::Ok(saturating_sub(sum, tag));
+    }
+    if usize::MAX - tag < sum {
+        return AeadResult::Err(AeadError::InputTooLong);
+    }
+    AeadResult::Ok(sum + tag)
+}
+
+// Whether a phase takes data and an end.
+fn phase_check(phase: Phase) -> AeadResult
+    ensures { λ r. ⌜ r ≡ phaseCheck phase ⌝ }
+{
+    match phase {
+        Phase::Uninitialized => AeadResult::Err(AeadError::NotInitialized),
+        Phase::Init(_) => AeadResult::Ok(0),
+        Phase::Aad(_) => AeadResult::Ok(0),
+        Phase::Data(_) => AeadResult::Ok(0),
+        Phase::Final(_) => AeadResult::Err(AeadError::AlreadyFinalized),
+    }
+}
+
+// Whether the output holds what is required.
+fn room(available: usize, required: usize) -> AeadResult
+    ensures { λ r. ⌜ r ≡ room available required ⌝ }
+{
+    if available < required {
+        AeadResult::Err(AeadError::OutputTooShort {
+            required,
+            available,
+        })
+    } else {
+        AeadResult::Ok(required)
+    }
+}
+
+// The length that a query gave, where the output holds it.
+fn with_room(length: AeadResult, available: usize) -> AeadResult
+    ensures { λ r. ⌜ r ≡ then length (room available) ⌝ }
+{
+    match length {
+        AeadResult::Err(e) => AeadResult::Err(e),
+        AeadResult::Ok(required) => room(available, required),
+    }
+}
+
+// Whether an opening has as much ciphertext as a tag.
+fn whole(variant: SparkleVariant, phase: Phase, held: usize, n: usize) -> AeadResult
+    ensures { λ r. ⌜ r ≡ whole (paramsOf variant) phase held n ⌝ }
+{
+    let h = held_in(variant, phase, held);
+    let tag = variant.tag_bytes();
+    if opening(phase) {
+        if h < tag {
+            return AeadResult::Err(AeadError::CiphertextTooShort {
+                minimum: tag,
+                actual: h,
+            });
+        }
+    }
+    AeadResult::Ok(n)
+}
+
+// Whether a phase takes a header that is not empty.
+fn header_check(phase: Phase) -> AeadResult
+    ensures { λ r. ⌜ r ≡ headerCheck phase ⌝ }
+{
+    match phase {
+        Phase::Uninitialized => AeadResult::Err(AeadError::NotInitialized),
+        Phase::Init(_) => AeadResult::Ok(0),
+        Phase::Aad(_) => AeadResult::Ok(0),
+        Phase::Data(_) => AeadResult::Err(AeadError::AadAfterData),
+        Phase::Final(_) => AeadResult::Err(AeadError::AlreadyFinalized),
+    }
+}
+
+// Whether a header call of n bytes is taken.
+pub fn aad_check(phase: Phase, n: usize) -> AeadResult
+    ensures { λ r. ⌜ r ≡ aadCheck phase n ⌝ }
+{
+    if n == 0 {
+        AeadResult::Ok(0)
+    } else {
+        header_check(phase)
+    }
+}
+
+// Whether a data call of n bytes into an output of `available` is taken, and what it writes.
+pub fn data_check(
+    variant: SparkleVariant,
+    phase: Phase,
+    held: usize,
+    n: usize,
+    available: usize,
+) -> AeadResult
+    ensures { λ r. ⌜ r ≡ dataCheck (paramsOf variant) phase held n available ⌝ }
+{
+    match phase_check(phase) {
+        AeadResult::Err(e) => AeadResult::Err(e),
+        AeadResult::Ok(_) => with_room(update_len(variant, phase, held, n), available),
+    }
+}
+
+// Whether an end into an output of `available` is taken, and what it writes.
+pub fn end_check(variant: SparkleVariant, phase: Phase, held: usize, available: usize) -> AeadResult
+    ensures { λ r. ⌜ r ≡ endCheck (paramsOf variant) phase held available ⌝ }
+{
+    match phase_check(phase) {
+        AeadResult::Err(e) => AeadResult::Err(e),
+        AeadResult::Ok(_) => match with_room(total_len(variant, phase, held, 0), available) {
+            AeadResult::Err(e) => AeadResult::Err(e),
+            AeadResult::Ok(n) => whole(variant, phase, held, n),
+        },
+    }
+}
+
+// Whether a start is taken. `repeats` says whether its key and nonce are the last loaded pair.
+pub fn start_check(
+    variant: SparkleVariant,
+    direction: Direction,
+    key: usize,
+    nonce: usize,
+    size: usize,
+    repeats: bool,
+) -> AeadInitResult
+    ensures { λ r. ⌜ r ≡ startCheck (paramsOf variant) direction key nonce size repeats ⌝ }
+{
+    if key != variant.key_bytes() {
+        return AeadInitResult::Err(AeadInitError::InvalidKeyLength { actual: key });
+    }
+    if nonce != variant.nonce_bytes() {
+        return AeadInitResult::Err(AeadInitError::InvalidNonceLength { actual: nonce });
+    }
+    if size != variant.tag_bytes() {
+        return AeadInitResult::Err(AeadInitError::InvalidMacSize { actual: size });
+    }
+    if opens(direction) {
+        return AeadInitResult::Ok;
+    }
+    if repeats {
+        AeadInitResult::Err(AeadInitError::NonceReuse)
+    } else {
+        AeadInitResult::Ok
+    }
+}
