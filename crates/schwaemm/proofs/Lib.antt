@@ -6,3 +6,4 @@ pub mod States
 pub mod RoundTrip
 pub mod Steps
 pub mod Variants
+pub mod Examples

@@ -1,4 +1,19 @@
 -- The laws that the proofs of `tc_sparkle_aead`, and of the crates above it, cite.
 pub mod VariantLaws
 pub mod CheckLaws
+pub mod Fill
+pub mod SameLaws
+pub mod WordLaws
+pub mod StateLaws
+pub mod MixLaws
+pub mod BlockRuns
+pub mod LastBlock
+pub mod StartLaws
+pub mod TagFill
+pub mod CallLaws
+pub mod HeaderLaws
+pub mod StartCheckLaws
+pub mod DataLaws
+pub mod EndLaws
+pub mod FinalLaws
 pub mod WorkedExamples

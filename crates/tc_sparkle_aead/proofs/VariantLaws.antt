@@ -1,5 +1,4 @@
 -- What holds of every variant: its sizes meet the specification's conditions, and fit the engine's arrays.
-use mathlib.Core.Path.{_≡_, refl}
 use mathlib.Core.Bool.{Bool, true, false, cond}
 use Prim.Native.Nat.{ℕ, _≤_}
 use native.Mathlib.Omega.{arith}

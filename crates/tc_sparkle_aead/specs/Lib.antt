@@ -3,3 +3,4 @@ pub mod Variant
 pub mod Refusals
 pub mod Checks
 pub mod Engine
+pub mod Calls

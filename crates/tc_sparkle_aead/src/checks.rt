@@ -23,7 +23,7 @@ fn opens(d: Direction) -> bool
 }
 
 // Whether a phase opens.
-pub fn opening(phase: Phase) -> bool
+pub(crate) fn opening(phase: Phase) -> bool
     ensures { λ r. ⌜ r ≡ opening phase ⌝ }
 {
     match phase {
@@ -36,7 +36,7 @@ pub fn opening(phase: Phase) -> bool
 }
 
 // The bytes that stay, besides one more: on an opening the tag's.
-pub fn keep(variant: SparkleVariant, phase: Phase) -> usize
+pub(crate) fn keep(variant: SparkleVariant, phase: Phase) -> usize
     ensures { λ r. ⌜ r ≡ keep (paramsOf variant) phase ⌝ }
 {
     if opening(phase) {
@@ -47,14 +47,14 @@ pub fn keep(variant: SparkleVariant, phase: Phase) -> usize
 }
 
 // The lesser of two numbers.
-pub fn least(a: usize, b: usize) -> usize
+pub(crate) fn least(a: usize, b: usize) -> usize
     ensures { λ r. ⌜ r ≡ min a b ⌝ }
 {
     if a < b { a } else { b }
 }
 
 // The held bytes h of document 01: 0 outside Data.
-pub fn held_in(variant: SparkleVariant, phase: Phase, held: usize) -> usize
+pub(crate) fn held_in(variant: SparkleVariant, phase: Phase, held: usize) -> usize
     ensures { λ r. ⌜ r ≡ heldIn (paramsOf variant) phase held ⌝ }
 {
     match phase {
@@ -67,7 +67,7 @@ pub fn held_in(variant: SparkleVariant, phase: Phase, held: usize) -> usize
 }
 
 // a - b, never under 0.
-fn saturating_sub(a: usize, b: usize) -> usize
+pub(crate) fn saturating_sub(a: usize, b: usize) -> usize
     ensures { λ r. ⌜ r ≡ a - b ⌝ }
 {
     if a < b { 0 } else { a - b }
@@ -82,7 +82,7 @@ fn ready_bytes(rate: usize, keep: usize, n: usize) -> usize
 }
 
 // The length that a data call of n bytes writes.
-pub fn update_len(variant: SparkleVariant, phase: Phase, held: usize, n: usize) -> AeadResult
+pub(crate) fn update_len(variant: SparkleVariant, phase: Phase, held: usize, n: usize) -> AeadResult
     ensures { λ r. ⌜ r ≡ updateLen (paramsOf variant) phase held n ⌝ }
 {
     let h = held_in(variant, phase, held);
@@ -93,7 +93,7 @@ pub fn update_len(variant: SparkleVariant, phase: Phase, held: usize, n: usize) 
 }
 
 // The length that data calls of n bytes and the end write together.
-pub fn total_len(variant: SparkleVariant, phase: Phase, held: usize, n: usize) -> AeadResult
+pub(crate) fn total_len(variant: SparkleVariant, phase: Phase, held: usize, n: usize) -> AeadResult
     ensures { λ r. ⌜ r ≡ totalLen (paramsOf variant) phase held n ⌝ }
 {
     let h = held_in(variant, phase, held);
@@ -179,7 +179,7 @@ fn header_check(phase: Phase) -> AeadResult
 }
 
 // Whether a header call of n bytes is taken.
-pub fn aad_check(phase: Phase, n: usize) -> AeadResult
+pub(crate) fn aad_check(phase: Phase, n: usize) -> AeadResult
     ensures { λ r. ⌜ r ≡ aadCheck phase n ⌝ }
 {
     if n == 0 {
@@ -190,7 +190,7 @@ pub fn aad_check(phase: Phase, n: usize) -> AeadResult
 }
 
 // Whether a data call of n bytes into an output of `available` is taken, and what it writes.
-pub fn data_check(
+pub(crate) fn data_check(
     variant: SparkleVariant,
     phase: Phase,
     held: usize,
@@ -206,7 +206,12 @@ pub fn data_check(
 }
 
 // Whether an end into an output of `available` is taken, and what it writes.
-pub fn end_check(variant: SparkleVariant, phase: Phase, held: usize, available: usize) -> AeadResult
+pub(crate) fn end_check(
+    variant: SparkleVariant,
+    phase: Phase,
+    held: usize,
+    available: usize,
+) -> AeadResult
     ensures { λ r. ⌜ r ≡ endCheck (paramsOf variant) phase held available ⌝ }
 {
     match phase_check(phase) {
@@ -219,7 +224,7 @@ pub fn end_check(variant: SparkleVariant, phase: Phase, held: usize, available: 
 }
 
 // Whether a start is taken. `repeats` says whether its key and nonce are the last loaded pair.
-pub fn start_check(
+pub(crate) fn start_check(
     variant: SparkleVariant,
     direction: Direction,
     key: usize,

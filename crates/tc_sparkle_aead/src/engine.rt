@@ -2,26 +2,40 @@
 // make and change an engine.
 ghost use mathlib.Core.Path.{_≡_};
 ghost use Rattle.tc_sparkle_aead.specs.Variant.{paramsOf};
-ghost use Rattle.tc_sparkle_aead.specs.Engine.{noMessage, newEngine, updateOutputLen, outputLen};
+ghost use mathlib.Core.List.{_++_};
+ghost use Prim.Native.Nat.{_+_, _*_, _≤_, _<_};
+ghost use mathlib.Core.Bool.{cond};
+ghost use lib.Dec.{ltb};
+ghost use lib.ListN.{length, take};
+ghost use Rattle.schwaemm.specs.Bytes.{same};
+ghost use Rattle.schwaemm.specs.Blocks.{ready};
+ghost use Rattle.schwaemm.specs.Schwaemm.{absorbBlock, messageBlock};
+ghost use Rattle.tc_sparkle_aead.specs.Checks.{keep};
+ghost use Rattle.tc_sparkle_aead.specs.Engine.{noMessage, noMac, newEngine, repeats, remember};
+ghost use Rattle.tc_sparkle_aead.specs.Calls.{heldCount, blocks, streamed, addSteps, atPoint, refused, startPoint, headed, headedSteps, started, aadIn, beginData, streamOut, afterHeader, withoutHeader, plainOf, dataIn, dataOut, written, finalPoint, stateIn, putState, lastState, sealLast, sealTag, receivedTag, openTag, ended, sealEnd, openEnd, openEndOutBy, resetPoint};
+use super::aead_error::AeadError;
 use super::aead_error::AeadResult;
+use super::aead_init_error::AeadInitResult;
+use super::blocks;
 use super::checks;
+use super::phase::Direction;
 use super::phase::Phase;
 use super::variant::SparkleVariant;
 
 // A point of a message: the phase, the state's words, the bytes that are held and how many they are.
 // Words and bytes beyond the state's and the held ones are 0.
 pub struct Point {
-    phase: Phase,
-    words: [u32; 16],
-    buffer: [u8; 64],
-    held: usize,
+    pub(crate) phase: Phase,
+    pub(crate) words: [u32; 16],
+    pub(crate) buffer: [u8; 64],
+    pub(crate) held: usize,
 }
 
 // The last loaded key and nonce, and whether there are any (the Rust's `has_key_nonce`).
 pub struct Pair {
-    loaded: bool,
-    key: [u8; 32],
-    nonce: [u8; 32],
+    pub(crate) loaded: bool,
+    pub(crate) key: [u8; 32],
+    pub(crate) nonce: [u8; 32],
 }
 
 // A tag and whether it can be read (the Rust's `Option<[u8; 32]>`).
@@ -32,22 +46,34 @@ pub struct Mac {
 
 // The permutation steps of the current message, and how many they were after init.
 pub struct Steps {
-    current: u64,
-    initial: u64,
+    pub(crate) current: u64,
+    pub(crate) initial: u64,
 }
 
 pub struct SparkleEngine {
-    variant: SparkleVariant,
-    current: Point,
+    pub(crate) variant: SparkleVariant,
+    pub(crate) current: Point,
     // the point after init, which a reset restores
-    initial: Point,
-    pair: Pair,
-    mac: Mac,
-    steps: Steps,
+    pub(crate) initial: Point,
+    pub(crate) pair: Pair,
+    pub(crate) mac: Mac,
+    pub(crate) steps: Steps,
+}
+
+// What a call of a message answers, and the engine afterwards.
+pub struct Done {
+    pub answer: AeadResult,
+    pub engine: SparkleEngine,
+}
+
+// What a start answers, and the engine afterwards.
+pub struct Started {
+    pub answer: AeadInitResult,
+    pub engine: SparkleEngine,
 }
 
 // A point without a message.
-fn no_message() -> Point
+pub(crate) fn no_message() -> Point
     ensures { λ r. ⌜ r ≡ noMessage ⌝ }
 {
     Point {
@@ -109,22 +135,449 @@ pub fn tag_bytes(e: SparkleEngine) -> usize
     v.tag_bytes()
 }
 
-// How many bytes the next data call of n bytes writes.
-pub fn update_output_len(e: SparkleEngine, n: usize) -> AeadResult
-    ensures { λ r. ⌜ r ≡ updateOutputLen e n ⌝ }
+// ---- a point of a message
+
+// How many bytes a phase holds: of the header at most a block, of the data as the queries count it.
+pub(crate) fn held_count(variant: SparkleVariant, phase: Phase, held: usize) -> usize
+    ensures { λ r. ⌜ r ≡ heldCount (paramsOf variant) phase held ⌝ }
 {
-    let v = e.variant;
-    let at = e.current;
-    let phase = at.phase;
-    checks::update_len(v, phase, at.held, n)
+    match phase {
+        Phase::Uninitialized => 0,
+        Phase::Init(_) => 0,
+        Phase::Aad(_) => checks::least(held, variant.nonce_bytes()),
+        Phase::Data(_) => checks::held_in(variant, phase, held),
+        Phase::Final(_) => 0,
+    }
 }
 
-// How many bytes data calls of n bytes and the end write together.
-pub fn output_len(e: SparkleEngine, n: usize) -> AeadResult
-    ensures { λ r. ⌜ r ≡ outputLen e n ⌝ }
+// How many blocks of n bytes go while `keep` bytes and one more stay.
+pub(crate) fn block_count(variant: SparkleVariant, keep: usize, n: usize) -> usize
+    ensures { λ r. ⌜ r ≡ ready (paramsOf variant .rate) keep n ⌝ }
 {
-    let v = e.variant;
+    checks::saturating_sub(checks::saturating_sub(n, keep), 1) / variant.nonce_bytes()
+}
+
+pub(crate) fn add_steps(s: Steps, n: u64) -> Steps
+    ensures { λ r. ⌜ r ≡ addSteps n s ⌝ }
+{
+    Steps {
+        current: std::num::wrapping_add_u64(s.current, n),
+        initial: s.initial,
+    }
+}
+
+// The engine at another point, after n more steps.
+pub(crate) fn at_point(e: SparkleEngine, at: Point, n: u64) -> SparkleEngine
+    ensures { λ r. ⌜ r ≡ atPoint e at n ⌝ }
+{
+    let mut r = e;
+    r.current = at;
+    let s = e.steps;
+    r.steps = add_steps(s, n);
+    r
+}
+
+// The point after a header that is not empty.
+pub(crate) fn absorb(variant: SparkleVariant, d: Direction, at: Point, input: &[u8]) -> Point
+    ensures { λ r. ⌜ r ≡ streamed (paramsOf variant) 0 (absorbBlock (paramsOf variant)) (Phase.Aad d) at (now (input .entry)) ⌝ }
+{
+    let phase = at.phase;
+    let words = at.words;
+    let buffer = at.buffer;
+    let held = held_count(variant, phase, at.held);
+    let total = held + input.len();
+    let count = block_count(variant, 0, total);
+    let next = blocks::absorb_blocks(variant, words, buffer, held, input, count);
+    let gone = count * variant.nonce_bytes();
+    Point {
+        phase: Phase::Aad(d),
+        words: next,
+        buffer: blocks::gather(buffer, held, input, gone, total - gone),
+        held: total - gone,
+    }
+}
+
+// ---- reset, mac and the step count
+
+// The message has ended: words and buffer are wiped.
+pub(crate) fn final_point(d: Direction) -> Point
+    ensures { λ r. ⌜ r ≡ finalPoint d ⌝ }
+{
+    Point {
+        phase: Phase::Final(d),
+        words: [0; 16],
+        buffer: [0; 64],
+        held: 0,
+    }
+}
+
+pub(crate) fn no_mac() -> Mac
+    ensures { λ r. ⌜ r ≡ noMac ⌝ }
+{
+    Mac {
+        readable: false,
+        bytes: [0; 32],
+    }
+}
+
+// Where a reset in a phase leads.
+pub(crate) fn reset_point(phase: Phase, initial: Point) -> Point
+    ensures { λ r. ⌜ r ≡ resetPoint phase initial ⌝ }
+{
+    match phase {
+        Phase::Uninitialized => no_message(),
+        Phase::Init(_) => initial,
+        Phase::Aad(_) => initial,
+        Phase::Data(d) => match d {
+            Direction::Encrypt => final_point(Direction::Encrypt),
+            Direction::Decrypt => initial,
+        },
+        Phase::Final(d) => match d {
+            Direction::Encrypt => final_point(Direction::Encrypt),
+            Direction::Decrypt => initial,
+        },
+    }
+}
+
+// ---- the data begins
+
+// The point where the data begins: the header's last block is taken up.
+fn after_header(variant: SparkleVariant, d: Direction, at: Point) -> Point
+    ensures { λ r. ⌜ r ≡ afterHeader (paramsOf variant) d at ⌝ }
+{
+    let words = at.words;
+    let buffer = at.buffer;
+    let n = checks::least(at.held, variant.nonce_bytes());
+    Point {
+        phase: Phase::Data(d),
+        words: blocks::mix_last(variant, words, buffer, n, 0),
+        buffer: [0; 64],
+        held: 0,
+    }
+}
+
+// The point where the data begins, without a header.
+fn without_header(d: Direction, at: Point) -> Point
+    ensures { λ r. ⌜ r ≡ withoutHeader d at ⌝ }
+{
+    let words = at.words;
+    Point {
+        phase: Phase::Data(d),
+        words,
+        buffer: [0; 64],
+        held: 0,
+    }
+}
+
+pub(crate) fn begin_data(e: SparkleEngine) -> SparkleEngine
+    ensures { λ r. ⌜ r ≡ beginData e ⌝ }
+{
+    let variant = e.variant;
     let at = e.current;
     let phase = at.phase;
-    checks::total_len(v, phase, at.held, n)
+    match phase {
+        Phase::Uninitialized => e,
+        Phase::Init(d) => at_point(e, without_header(d, at), 0),
+        Phase::Aad(d) => at_point(e, after_header(variant, d, at), variant.big_steps() as u64),
+        Phase::Data(_) => e,
+        Phase::Final(_) => e,
+    }
+}
+
+// ---- header and data
+
+// The steps that a header's blocks run.
+pub(crate) fn header_steps(variant: SparkleVariant, at: Point, input: &[u8]) -> u64
+    ensures { λ r. ⌜ r ≡ headedSteps (paramsOf variant) at (now (input .entry)) ⌝ }
+{
+    let phase = at.phase;
+    let held = held_count(variant, phase, at.held);
+    let count = block_count(variant, 0, held + input.len());
+    (count as u64) * (variant.slim_steps() as u64)
+}
+
+// The engine after a header that is not empty.
+pub(crate) fn header_in(e: SparkleEngine, input: &[u8]) -> SparkleEngine
+    requires { ⌜ 0 < length (now input) ⌝ }
+    ensures { λ r. ⌜ r ≡ aadIn (e .current .phase) e (now (input .entry)) ⌝ }
+{
+    let variant = e.variant;
+    let at = e.current;
+    let phase = at.phase;
+    match phase {
+        Phase::Uninitialized => e,
+        Phase::Init(d) => {
+            let next = absorb(variant, d, at, input);
+            at_point(e, next, header_steps(variant, at, input))
+        }
+        Phase::Aad(d) => {
+            let next = absorb(variant, d, at, input);
+            at_point(e, next, header_steps(variant, at, input))
+        }
+        Phase::Data(_) => e,
+        Phase::Final(_) => e,
+    }
+}
+
+// The point after data, of which `count` blocks go to the output.
+fn stream_in(
+    variant: SparkleVariant,
+    at: Point,
+    input: &[u8],
+    output: &mut [u8],
+    count: usize,
+) -> Point
+    requires { ⌜ (count ≡ blocks (paramsOf variant) (keep (paramsOf variant) (at .phase)) at (now input)) × (count * paramsOf variant .rate ≤ length (now output)) ⌝ }
+    ensures { λ r. ⌜ r ≡ streamed (paramsOf variant) (keep (paramsOf variant) (at .phase)) (messageBlock (paramsOf variant) (plainOf (paramsOf variant) (at .phase))) (at .phase) at (now (input .entry)) ⌝ }
+    ensures { λ _. ⌜ now (output .exit) ≡ written (streamOut (paramsOf variant) at (now (input .entry))) (now (output .entry)) ⌝ }
+{
+    let phase = at.phase;
+    let words = at.words;
+    let buffer = at.buffer;
+    let held = held_count(variant, phase, at.held);
+    let next = blocks::crypt_blocks(
+        variant,
+        checks::opening(phase),
+        words,
+        buffer,
+        held,
+        input,
+        output,
+        count,
+    );
+    let gone = count * variant.nonce_bytes();
+    let rest = held + input.len() - gone;
+    Point {
+        phase,
+        words: next,
+        buffer: blocks::gather(buffer, held, input, gone, rest),
+        held: rest,
+    }
+}
+
+// The engine after data in phase Data, and what is written.
+pub(crate) fn data_in(e: SparkleEngine, input: &[u8], output: &mut [u8]) -> SparkleEngine
+    requires { ⌜ blocks (paramsOf (e .variant)) (keep (paramsOf (e .variant)) (e .current .phase)) (e .current) (now input) * paramsOf (e .variant) .rate ≤ length (now output) ⌝ }
+    ensures { λ r. ⌜ r ≡ dataIn e (now (input .entry)) ⌝ }
+    ensures { λ _. ⌜ now (output .exit) ≡ written (dataOut e (now (input .entry))) (now (output .entry)) ⌝ }
+{
+    let variant = e.variant;
+    let at = e.current;
+    let phase = at.phase;
+    let held = held_count(variant, phase, at.held);
+    let count = block_count(variant, checks::keep(variant, phase), held + input.len());
+    let next = stream_in(variant, at, input, output, count);
+    at_point(e, next, (count as u64) * (variant.slim_steps() as u64))
+}
+
+// ---- the start
+
+// Whether a key and a nonce are the last loaded pair; all their bytes are looked at.
+pub(crate) fn repeats(variant: SparkleVariant, pair: Pair, key: &[u8], nonce: &[u8]) -> bool
+    ensures { λ r. ⌜ r ≡ repeats (paramsOf variant) pair (now (key .entry)) (now (nonce .entry)) ⌝ }
+{
+    let k = variant.key_bytes();
+    let n = variant.nonce_bytes();
+    if key.len() != k {
+        return false;
+    }
+    if nonce.len() != n {
+        return false;
+    }
+    if !pair.loaded {
+        return false;
+    }
+    let last_key = pair.key;
+    let last_nonce = pair.nonce;
+    if blocks::same_bytes(&last_key, key, k) {
+        blocks::same_bytes(&last_nonce, nonce, n)
+    } else {
+        false
+    }
+}
+
+// The pair once a key and a nonce are loaded.
+fn remember(key: &[u8], nonce: &[u8]) -> Pair
+    requires { ⌜ (length (now key) ≤ 32) × (length (now nonce) ≤ 32) ⌝ }
+    ensures { λ r. ⌜ r ≡ remember (now (key .entry)) (now (nonce .entry)) ⌝ }
+{
+    Pair {
+        loaded: true,
+        key: blocks::in_array(key),
+        nonce: blocks::in_array(nonce),
+    }
+}
+
+// A refused start ends the message and loads no pair.
+pub(crate) fn refused(e: SparkleEngine) -> SparkleEngine
+    ensures { λ r. ⌜ r ≡ refused e ⌝ }
+{
+    let none = no_message();
+    let mac = no_mac();
+    let steps = Steps {
+        current: 0,
+        initial: 0,
+    };
+    let mut r = e;
+    r.current = none;
+    r.initial = none;
+    r.mac = mac;
+    r.steps = steps;
+    r
+}
+
+// The point after the start, before the initial header.
+fn start_point(variant: SparkleVariant, d: Direction, key: &[u8], nonce: &[u8]) -> Point
+    requires { ⌜ (length (now key) ≡ paramsOf variant .key) × (length (now nonce) ≡ paramsOf variant .rate) ⌝ }
+    ensures { λ r. ⌜ r ≡ startPoint (paramsOf variant) d (now (key .entry)) (now (nonce .entry)) ⌝ }
+{
+    Point {
+        phase: Phase::Init(d),
+        words: blocks::initialise(variant, key, nonce),
+        buffer: [0; 64],
+        held: 0,
+    }
+}
+
+// The point after a header: as it was, where there is none.
+fn headed(variant: SparkleVariant, d: Direction, at: Point, header: &[u8]) -> Point
+    ensures { λ r. ⌜ r ≡ headed (paramsOf variant) d at (now (header .entry)) ⌝ }
+{
+    if header.len() == 0 {
+        at
+    } else {
+        absorb(variant, d, at, header)
+    }
+}
+
+// A start that is taken loads its pair and absorbs its header.
+pub(crate) fn start(
+    e: SparkleEngine,
+    d: Direction,
+    key: &[u8],
+    nonce: &[u8],
+    header: &[u8],
+) -> SparkleEngine
+    requires { ⌜ (length (now key) ≡ paramsOf (e .variant) .key) × (length (now nonce) ≡ paramsOf (e .variant) .rate) ⌝ }
+    ensures { λ r. ⌜ r ≡ started e d (now (key .entry)) (now (nonce .entry)) (now (header .entry)) ⌝ }
+{
+    let variant = e.variant;
+    let at = start_point(variant, d, key, nonce);
+    let point = headed(variant, d, at, header);
+    let pair = remember(key, nonce);
+    let mac = no_mac();
+    let count = std::num::wrapping_add_u64(
+        variant.big_steps() as u64,
+        header_steps(variant, at, header),
+    );
+    let steps = Steps {
+        current: count,
+        initial: count,
+    };
+    let mut r = e;
+    r.current = point;
+    r.initial = point;
+    r.pair = pair;
+    r.mac = mac;
+    r.steps = steps;
+    r
+}
+
+// ---- the end
+
+// The words after the last block, n bytes of the buffer: as they were, where there is none.
+fn last_words(variant: SparkleVariant, words: [u32; 16], buffer: [u8; 64], n: usize) -> [u32; 16]
+    requires { ⌜ n ≤ paramsOf variant .rate ⌝ }
+    ensures { λ r. ⌜ r ≡ putState (paramsOf variant) words (lastState (paramsOf variant) (stateIn (paramsOf variant) words) (take n buffer) (take n buffer)) ⌝ }
+{
+    if n == 0 {
+        words
+    } else {
+        blocks::mix_last(variant, words, buffer, n, 2)
+    }
+}
+
+// The steps of a last block of n bytes.
+fn last_steps(variant: SparkleVariant, n: usize) -> u64
+    ensures { λ r. ⌜ r ≡ cond (ltb 0 n) (paramsOf variant .big) 0 ⌝ }
+{
+    if 0 < n { variant.big_steps() as u64 } else { 0 }
+}
+
+// The message has ended.
+fn ended(e: SparkleEngine, d: Direction, mac: Mac, n: u64) -> SparkleEngine
+    ensures { λ r. ⌜ r ≡ ended e d mac n ⌝ }
+{
+    let point = final_point(d);
+    let s = e.steps;
+    let steps = add_steps(s, n);
+    let mut r = e;
+    r.current = point;
+    r.mac = mac;
+    r.steps = steps;
+    r
+}
+
+// The end of a sealing: the last bytes and the tag.
+pub(crate) fn seal_end(e: SparkleEngine, n: usize, output: &mut [u8]) -> Done
+    requires { ⌜ (heldCount (paramsOf (e .variant)) (e .current .phase) (e .current .held) ≤ paramsOf (e .variant) .rate) × (heldCount (paramsOf (e .variant)) (e .current .phase) (e .current .held) + paramsOf (e .variant) .key ≤ length (now output)) ⌝ }
+    ensures { λ r. ⌜ r ≡ sealEnd e n ⌝ }
+    ensures { λ _. ⌜ now (output .exit) ≡ written (sealLast e ++ sealTag e) (now (output .entry)) ⌝ }
+{
+    let variant = e.variant;
+    let at = e.current;
+    let phase = at.phase;
+    let words = at.words;
+    let buffer = at.buffer;
+    let pair = e.pair;
+    let key = pair.key;
+    let held = held_count(variant, phase, at.held);
+    let bytes = blocks::crypt(variant, words, buffer, held);
+    let tag = blocks::make_tag(variant, last_words(variant, words, buffer, held), key);
+    blocks::put(output, 0, bytes, held);
+    blocks::put_tag(output, held, tag, variant.tag_bytes());
+    let mac = Mac {
+        readable: true,
+        bytes: tag,
+    };
+    Done {
+        answer: AeadResult::Ok(n),
+        engine: ended(e, Direction::Encrypt, mac, last_steps(variant, held)),
+    }
+}
+
+// The end of an opening: the last bytes where the received tag is right, else zeros in their place.
+pub(crate) fn open_end(e: SparkleEngine, n: usize, output: &mut [u8]) -> Done
+    requires { ⌜ (paramsOf (e .variant) .key ≤ heldCount (paramsOf (e .variant)) (e .current .phase) (e .current .held)) × (heldCount (paramsOf (e .variant)) (e .current .phase) (e .current .held) ≤ paramsOf (e .variant) .rate + paramsOf (e .variant) .key) × (heldCount (paramsOf (e .variant)) (e .current .phase) (e .current .held) ≤ length (now output) + paramsOf (e .variant) .key) ⌝ }
+    ensures { λ r. ⌜ r ≡ openEnd e n ⌝ }
+    ensures { λ _. ⌜ now (output .exit) ≡ written (openEndOutBy (same (receivedTag e) (openTag e)) e) (now (output .entry)) ⌝ }
+{
+    let variant = e.variant;
+    let at = e.current;
+    let phase = at.phase;
+    let words = at.words;
+    let buffer = at.buffer;
+    let pair = e.pair;
+    let key = pair.key;
+    let size = variant.tag_bytes();
+    let body = held_count(variant, phase, at.held) - size;
+    let plain = blocks::crypt(variant, words, buffer, body);
+    let tag = blocks::make_tag(variant, last_words(variant, words, plain, body), key);
+    let steps = last_steps(variant, body);
+    if blocks::same_tag(buffer, body, tag, size) {
+        blocks::put(output, 0, plain, body);
+        let mac = Mac {
+            readable: true,
+            bytes: tag,
+        };
+        return Done {
+            answer: AeadResult::Ok(n),
+            engine: ended(e, Direction::Decrypt, mac, steps),
+        };
+    }
+    blocks::put(output, 0, [0u8; 64], body);
+    Done {
+        answer: AeadResult::Err(AeadError::AuthenticationFailed),
+        engine: ended(e, Direction::Decrypt, no_mac(), steps),
+    }
 }

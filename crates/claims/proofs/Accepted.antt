@@ -1,0 +1,334 @@
+-- What an accepted data call and an end past its checks answer and write, on the engine that the reader gives: the
+-- specification's next bytes for the data so far.
+use mathlib.Core.Path.{_≡_, refl, sym, ap, ap₂, _∙_}
+use mathlib.Core.Bool.{Bool, true, false, cond}
+use mathlib.Core.List.{List, _++_, append-assoc}
+use Prim.Native.Nat.{ℕ, _+_, _-_, _*_, _^_, _≤_}
+use native.Mathlib.Omega.{arith}
+use lib.Dec.{ltb}
+use borrow.Author.Tests.{ltb-false}
+use lib.ListN.{length, take, drop, length-append, length-drop, length-take}
+use lib.Seq.{take-at, drop-at}
+use Rattle.schwaemm.specs.Blocks.{ready, after, given, held}
+use Rattle.schwaemm.specs.Schwaemm.{Params, crypt, prepared, sealing, opening as openingBlock, messageBlock, beforeLast, lastBlock, crypted, encrypt, decrypt, tag, seal, body as bodyOf, leading}
+use Rattle.schwaemm.proofs.Cut.{ready-bound, rest-below, length-held}
+use Rattle.schwaemm.proofs.States.{length-prepared, length-crypt}
+use Rattle.schwaemm.proofs.RoundTrip.{length-blocks, length-crypted-blocks, length-beforeLast, lastBlock-fits, length-tag}
+use Rattle.tc_sparkle_aead.specs.declared.variant.SparkleVariant.{SparkleVariant}
+use Rattle.tc_sparkle_aead.specs.declared.phase.Direction.{Direction}
+use Rattle.tc_sparkle_aead.specs.declared.phase.Direction.the-variants.{Encrypt, Decrypt}
+use Rattle.tc_sparkle_aead.specs.declared.phase.Phase.{Phase}
+use Rattle.tc_sparkle_aead.specs.declared.phase.Phase.the-variants.{Uninitialized, Init, Aad, Data, Final}
+use Rattle.tc_sparkle_aead.specs.declared.aead_error.AeadError.the-variants.{OutputTooShort, CiphertextTooShort, InputTooLong}
+use Rattle.tc_sparkle_aead.specs.declared.aead_error.AeadResult.{AeadResult}
+use Rattle.tc_sparkle_aead.specs.declared.aead_error.AeadResult.the-variants.{Ok, Err}
+use Rattle.tc_sparkle_aead.specs.declared.engine.Mac.{Mac}
+use Rattle.tc_sparkle_aead.specs.declared.engine.SparkleEngine.{SparkleEngine}
+use Rattle.tc_sparkle_aead.specs.Variant.{paramsOf}
+use Rattle.tc_sparkle_aead.specs.Checks.{opens, opening, keep, heldIn, then, within64, updateLen, totalLen, phaseCheck, room, dataCheck, whole, endCheck}
+use Rattle.tc_sparkle_aead.specs.Calls.{stateIn, stream, blocks, beginData, plainOf, dataOut, written, sealLast, sealTag, openBlock, openLast, plainBy, streamOut}
+use Rattle.tc_sparkle_aead.proofs.VariantLaws.{sizes, small}
+use Rattle.claims.specs.Reader.{Reader, heldOf, dataPhase}
+use Rattle.claims.proofs.Points.{held-nil, blockPoint}
+use Rattle.claims.proofs.Packets.{packet-given}
+use Rattle.claims.proofs.Kept.{Fits, Standing, engineOf, dataPoint, pointIn, then-good, holds-data, state-data, data-given, phase-agrees}
+use Rattle.claims.proofs.Follows.{Takes, kept, inData, begun-data, sealing-state, sealing-block, sealing-tag, opening-block, opening-last}
+
+-- ---- What passed checks say
+
+pub record DataPassed (p : Params) (phase : Phase) (held k a n : ℕ) : Type 0 where
+  pub count : n ≡ ready (p .rate) (keep p phase) (heldIn p phase held + k) * p .rate
+  pub fits : n ≤ a
+
+pub within-good : (sum n k : ℕ) (b : Bool) → ltb sum (2 ^ 64) ≡ b
+    → _≡_ {A = AeadResult} (cond b (Ok n) (Err InputTooLong)) (Ok k) → n ≡ k
+within-good sum n k true t e = cc
+within-good sum n k false t e = absurd (let z : _≡_ {A = ℕ} 0 1 = cc in omega arith)
+
+room-good : (a n k : ℕ) (b : Bool) → ltb a n ≡ b → _≡_ {A = AeadResult} (cond b (Err (OutputTooShort n a)) (Ok n)) (Ok k)
+    → (n ≡ k) × (n ≤ a)
+room-good a n k true t e = absurd (let z : _≡_ {A = ℕ} 0 1 = cc in omega arith)
+room-good a n k false t e = (cc, ltb-false a n t)
+
+pub data-good : (p : Params) (phase : Phase) (held k a n : ℕ) → dataCheck p phase held k a ≡ Ok n
+    → DataPassed p phase held k a n
+unfolding dataCheck updateLen
+data-good p phase held k a n e =
+    let h = heldIn p phase held in
+    let m = ready (p .rate) (keep p phase) (h + k) * p .rate in
+    let s1 = then-good (phaseCheck phase) (λ _. then (updateLen p phase held k) (room a)) n e in
+    let s2 = then-good (updateLen p phase held k) (room a) n (s1 .2) in
+    let s3 = within-good (h + k) m (s2 .0) (ltb (h + k) (2 ^ 64)) refl (s2 .1) in
+    let s4 = room-good a (s2 .0) n (ltb a (s2 .0)) refl (s2 .2) in
+    record { count = sym (s4 .0) ∙ sym s3; fits = omega arith }
+
+pub record EndPassed (p : Params) (phase : Phase) (held a n : ℕ) : Type 0 where
+  pub count : n ≡ cond (opening phase) (heldIn p phase held - p .key) (heldIn p phase held + p .key)
+  pub fits : n ≤ a
+
+pub total-good : (p : Params) (h k : ℕ) (b : Bool)
+    → cond b (within64 (h + 0) (h + 0 - p .key)) (within64 (h + 0 + p .key) (h + 0 + p .key)) ≡ Ok k
+    → k ≡ cond b (h - p .key) (h + p .key)
+total-good p h k true e =
+    omega (arith, within-good (h + 0) (h + 0 - p .key) k (ltb (h + 0) (2 ^ 64)) refl e)
+total-good p h k false e =
+    omega (arith, within-good (h + 0 + p .key) (h + 0 + p .key) k (ltb (h + 0 + p .key) (2 ^ 64)) refl e)
+
+whole-same : (p : Params) (h j n : ℕ) (b c : Bool)
+    → cond b (cond c (Err (CiphertextTooShort (p .key) h)) (Ok j)) (Ok j) ≡ Ok n → j ≡ n
+whole-same p h j n true true e = absurd (let z : _≡_ {A = ℕ} 0 1 = cc in omega arith)
+whole-same p h j n true false e = cc
+whole-same p h j n false c e = cc
+
+pub end-good : (p : Params) (phase : Phase) (held a n : ℕ) → endCheck p phase held a ≡ Ok n → EndPassed p phase held a n
+unfolding endCheck totalLen
+end-good p phase held a n e =
+    let h = heldIn p phase held in
+    let s1 = then-good (phaseCheck phase) (λ _. then (then (totalLen p phase held 0) (room a)) (whole p phase held)) n e in
+    let s2 = then-good (then (totalLen p phase held 0) (room a)) (whole p phase held) n (s1 .2) in
+    let s3 = then-good (totalLen p phase held 0) (room a) (s2 .0) (s2 .1) in
+    let s4 = room-good a (s3 .0) (s2 .0) (ltb a (s3 .0)) refl (s3 .2) in
+    let s5 = total-good p h (s3 .0) (opening phase) (s3 .1) in
+    let s6 = whole-same p h (s2 .0) n (opening phase) (ltb h (p .key)) (s2 .2) in
+    record { count = sym s6 ∙ sym (s4 .0) ∙ s5; fits = omega arith }
+
+-- the phases of accepted calls
+pub phase-takes : (phase : Phase) (k : ℕ) → phaseCheck phase ≡ Ok k → (d : Direction) × Takes d phase
+phase-takes Uninitialized k e = absurd (let z : _≡_ {A = ℕ} 0 1 = cc in omega arith)
+phase-takes (Init d) k e = (d, Takes.takes-init)
+phase-takes (Aad d) k e = (d, Takes.takes-aad)
+phase-takes (Data d) k e = (d, Takes.takes-data)
+phase-takes (Final d) k e = absurd (let z : _≡_ {A = ℕ} 0 1 = cc in omega arith)
+
+pub data-takes : (p : Params) (phase : Phase) (held k a n : ℕ) → dataCheck p phase held k a ≡ Ok n
+    → (d : Direction) × Takes d phase
+unfolding dataCheck
+data-takes p phase held k a n e =
+    let s1 = then-good (phaseCheck phase) (λ _. then (updateLen p phase held k) (room a)) n e in
+    phase-takes phase (s1 .0) (s1 .1)
+
+pub end-takes : (p : Params) (phase : Phase) (held a n : ℕ) → endCheck p phase held a ≡ Ok n
+    → (d : Direction) × Takes d phase
+unfolding endCheck
+end-takes p phase held a n e =
+    let s1 = then-good (phaseCheck phase) (λ _. then (then (totalLen p phase held 0) (room a)) (whole p phase held)) n e in
+    phase-takes phase (s1 .0) (s1 .1)
+
+-- ---- Outputs
+
+-- The bytes that the specification gives, before the end, for the data so far.
+unfoldable pub released : Params → Reader → List ℕ
+released p r =
+    given (p .rate) (messageBlock p (plainOf p (r .phase))) (crypt p)
+    (ready (p .rate) (keep p (r .phase)) (length (r .body)))
+    (prepared p (r .key) (r .nonce) (r .header)) (r .body)
+
+-- A call that takes the bytes so far, `before`, to `after`, by the n bytes that it writes into the buffer that was lent as
+-- `out`; the rest of the buffer is as lent.
+pub record Writes (before after out buffer : List ℕ) (n : ℕ) : Type 0 where
+  pub bytes : after ≡ before ++ take n buffer
+  pub rest : drop n buffer ≡ drop n out
+  pub length-same : length buffer ≡ length out
+
+pub writes : (before after out w : List ℕ) (n : ℕ) → after ≡ before ++ w → length w ≡ n → n ≤ length out
+    → Writes before after out (written w out) n
+unfolding written
+writes before after out w n e l fits =
+    record {
+      bytes = e ∙ ap (λ (x : List ℕ). before ++ x) (sym (take-at w (drop (length w) out) n l));
+      rest = drop-at w (drop (length w) out) n l ∙ ap (λ (k : ℕ). drop k out) l;
+      length-same = simp (length-append, length-drop) (omega arith);
+    }
+
+-- ---- A phase that takes data
+
+pub takes-phase : {d : Direction} {phase : Phase} → Takes d phase → dataPhase phase ≡ Data d
+takes-phase Takes.takes-init = refl
+takes-phase Takes.takes-aad = refl
+takes-phase Takes.takes-data = refl
+
+pub takes-keep : (p : Params) {d : Direction} {phase : Phase} → Takes d phase → keep p phase ≡ keep p (Data d)
+takes-keep p Takes.takes-init = refl
+takes-keep p Takes.takes-aad = refl
+takes-keep p Takes.takes-data = refl
+
+pub takes-opening : {d : Direction} {phase : Phase} → Takes d phase → opening phase ≡ opens d
+takes-opening Takes.takes-init = refl
+takes-opening Takes.takes-aad = refl
+takes-opening Takes.takes-data = refl
+
+module _ (v : SparkleVariant) where
+  abbrev p : Params
+  p = paramsOf v
+
+  module _ (loaded : Bool) (key nonce initial : List ℕ) where
+    -- the reader by its other parts, and the engine in its data
+    abbrev keeps : Phase → (header body : List ℕ) → Reader
+    keeps phase header body = kept loaded key nonce initial phase header body
+
+    abbrev dataEngine : Direction → (header body : List ℕ) → SparkleEngine
+    dataEngine d header body = inData v loaded key nonce initial d header body
+
+    module _ (f : loaded ≡ true → Fits p key nonce) (header body : List ℕ) (mac : Mac) (n : ℕ) where
+      -- what is held
+      pub held-count : {d : Direction} {phase : Phase} → Takes d phase
+          → Standing p phase loaded key nonce initial header body mac n
+          → heldIn p phase (heldOf p (keeps phase header body))
+          ≡ length (held (p .rate) (keep p (Data d)) body)
+      held-count {d = d} Takes.takes-init st =
+          rw (st .4, held-nil (p .rate) (keep p (Data d)))
+      held-count {d = d} Takes.takes-aad st =
+          rw (st .4, held-nil (p .rate) (keep p (Data d)))
+      held-count {d = d} Takes.takes-data st =
+          let s = sizes v in
+          omega (
+            arith,
+            length-held (p .rate) (keep p (Data d)) body,
+            rest-below (p .rate) (keep p (Data d))
+                (s .rate-positive) (length body),
+          )
+
+      pub released-data : {d : Direction} {phase : Phase} → Takes d phase
+          → released p (keeps phase header body)
+          ≡ released p (keeps (Data d) header body)
+      unfolding released plainOf plainBy
+      released-data Takes.takes-init = refl
+      released-data Takes.takes-aad = refl
+      released-data Takes.takes-data = refl
+
+      -- a data call
+      module _ (d : Direction) (input : List ℕ) where
+        data-bytes : released p (keeps (Data d) header (body ++ input))
+            ≡ released p (keeps (Data d) header body)
+            ++ dataOut (dataEngine d header body) input
+        unfolding released dataOut dataPoint blockPoint streamOut
+        data-bytes = sym (data-given p (sizes v) (small v) d key nonce header body input (crypt p))
+
+        data-length : length (dataOut (dataEngine d header body) input)
+            ≡ ready (p .rate) (keep p (Data d)) (length (held (p .rate) (keep p (Data d)) body) + length input) * p .rate
+        unfolding dataOut dataPoint blockPoint blocks stream streamOut
+        data-length =
+            let at = dataPoint p d key nonce header body in
+            let plain = plainOf p (Data d) in
+            let first = prepared p key nonce header in
+            length-crypted-blocks p (sizes v) plain (blocks p (keep p (Data d)) at input) (stateIn p (at .words))
+            (stream p at input)
+            (ap length (state-data p (sizes v) (small v) d key nonce header body)
+            ∙ length-blocks p (sizes v) plain (ready (p .rate) (keep p (Data d)) (length body)) first body
+            (length-prepared p (sizes v) key nonce header))
+            (ready-bound (p .rate) (keep p (Data d)) (length (stream p at input)))
+            ∙ ap (λ (k : ℕ). ready (p .rate) (keep p (Data d)) k * p .rate)
+            (ap (λ (l : List ℕ). length (l ++ input)) (holds-data p (sizes v) (small v) d key nonce header body)
+            ∙ length-append (held (p .rate) (keep p (Data d)) body) input)
+
+      pub message-writes : {d : Direction} {phase : Phase} → Takes d phase
+          → Standing p phase loaded key nonce initial header body mac n
+          → (input out : List ℕ) (k : ℕ)
+          → DataPassed p phase (heldOf p (keeps phase header body)) (length input) (length out) k
+          → Writes (released p (keeps phase header body))
+          (released p (keeps (dataPhase phase) header (body ++ input)))
+          out (written (dataOut (beginData (engineOf v (keeps phase header body) mac n)) input) out) k
+      message-writes {d} {phase} t st input out k ok =
+          let r = keeps phase header body in
+          let is = begun-data v loaded key nonce initial f t header body mac n st in
+          let e : released p (keeps (dataPhase phase) header (body ++ input))
+          ≡ released p r ++ dataOut (beginData (engineOf v r mac n)) input =
+          ap (λ (x : Phase). released p (keeps x header (body ++ input))) (takes-phase t)
+          ∙ data-bytes d input
+          ∙ ap₂ (λ (x : List ℕ) (y : SparkleEngine). x ++ dataOut y input) (sym (released-data t)) (sym is)
+          in
+          let l : length (dataOut (beginData (engineOf v r mac n)) input) ≡ k =
+          ap (λ (y : SparkleEngine). length (dataOut y input)) is ∙ data-length d input
+          ∙ ap₂ (λ (x y : ℕ). ready (p .rate) x (y + length input) * p .rate) (sym (takes-keep p t)) (sym (held-count t st))
+          ∙ sym (ok .count)
+          in
+          writes (released p r) _ out (dataOut (beginData (engineOf v r mac n)) input) k e l (ok .fits)
+
+      -- the end of a sealing
+      pub seal-bytes : loaded ≡ true → seal p key nonce header body
+          ≡ released p (keeps (Data Encrypt) header body)
+          ++ (sealLast (dataEngine Encrypt header body) ++ sealTag (dataEngine Encrypt header body))
+      unfolding seal encrypt crypted released sealLast leading plainOf plainBy
+      seal-bytes l =
+          rw (
+            sealing-tag v loaded key nonce initial f l header body,
+            sealing-state v loaded key nonce initial f l header body,
+            sealing-block v loaded key nonce initial f l header body,
+          )
+          (append-assoc
+          (given (p .rate) (messageBlock p (sealing p)) (crypt p) (ready (p .rate) 0 (length body))
+          (prepared p key nonce header) body)
+          (crypt p (beforeLast p (sealing p) (prepared p key nonce header) body) (lastBlock p body))
+          (tag p key nonce header body))
+
+      pub seal-length : loaded ≡ true
+          → length (sealLast (dataEngine Encrypt header body) ++ sealTag (dataEngine Encrypt header body))
+          ≡ length (held (p .rate) 0 body) + p .key
+      unfolding sealLast
+      seal-length l =
+          let first = prepared p key nonce header in
+          let b = length-beforeLast p (sizes v) (sealing p) first body (length-prepared p (sizes v) key nonce header) in
+          rw (
+            sealing-tag v loaded key nonce initial f l header body,
+            sealing-state v loaded key nonce initial f l header body,
+            sealing-block v loaded key nonce initial f l header body,
+          )
+          (simp length-append
+          (omega (
+            arith,
+            length-crypt p (sizes v) (beforeLast p (sealing p) first body) b (lastBlock p body),
+            lastBlock-fits p (sizes v) body,
+            length-tag p (sizes v) key nonce header (f l .key-fits) body,
+            held-last,
+          )))
+        where
+          held-last : length (held (p .rate) 0 body) ≡ length (lastBlock p body)
+          held-last = unfold held lastBlock leading in refl
+
+      -- the end of an opening
+      module _ (l : loaded ≡ true) (enough : p .key ≤ length body) where
+        pub open-bytes : decrypt p key nonce header (bodyOf p body)
+            ≡ released p (keeps (Data Decrypt) header body)
+            ++ openLast (dataEngine Decrypt header body)
+        unfolding decrypt crypted released plainOf plainBy
+        open-bytes =
+            rw (
+              opening-last v loaded key nonce initial f l header body enough,
+              packet-given p body enough (messageBlock p (openingBlock p)) (crypt p) (prepared p key nonce header),
+            )
+
+        pub open-length : length (openBlock (dataEngine Decrypt header body))
+            ≡ length (held (p .rate) (p .key) body) - p .key
+        unfolding openBlock
+        open-length =
+            let e = holds-data p (sizes v) (small v) Decrypt key nonce header body in
+            simp length-take (omega (arith, ap length e))
+
+        pub last-length : length (openLast (dataEngine Decrypt header body))
+            ≡ length (held (p .rate) (p .key) body) - p .key
+        last-length =
+            let first = prepared p key nonce header in
+            let c = bodyOf p body in
+            let b = length-beforeLast p (sizes v) (openingBlock p) first c (length-prepared p (sizes v) key nonce header) in
+            ap length (opening-last v loaded key nonce initial f l header body enough)
+            ∙ omega (
+              arith,
+              length-crypt p (sizes v) (beforeLast p (openingBlock p) first c) b (lastBlock p c),
+              lastBlock-fits p (sizes v) c,
+              open-length,
+              ap length (opening-block v loaded key nonce initial f l header body enough),
+            )
+
+      -- the end, past its checks, by the direction
+      module _ {d : Direction} {phase : Phase} (t : Takes d phase)
+          (st : Standing p phase loaded key nonce initial header body mac n)
+          (out : List ℕ) (k : ℕ)
+          (ok : EndPassed p phase (heldOf p (keeps phase header body)) (length out) k) where
+        pub is-open : opening (pointIn p phase key nonce header body .phase) ≡ opens d
+        is-open = ap opening (phase-agrees p key nonce header body phase) ∙ takes-opening t
+
+        -- how much is written
+        pub end-count : k ≡ cond (opens d) (length (held (p .rate) (keep p (Data d)) body) - p .key)
+            (length (held (p .rate) (keep p (Data d)) body) + p .key)
+        end-count =
+            ok .count ∙ ap₂ (λ (b : Bool) (h : ℕ). cond b (h - p .key) (h + p .key)) (takes-opening t) (held-count t st)

@@ -1,0 +1,752 @@
+-- Demand 1, for every engine value and every call: what each of the eleven numbers leaves, and where it comes back.
+use mathlib.Core.Path.{_≡_, refl, ap, subst, _∙_}
+use mathlib.Core.Logic.{_↔_}
+use mathlib.Core.Bool.{Bool, true, false, cond}
+use mathlib.Core.List.{List, [], _∷_, _++_}
+use Prim.Native.Nat.{ℕ, _+_, _-_, _*_, _/_, _%_, _^_, _≤_, _<_, min}
+use native.Mathlib.Omega.{arith}
+use lib.ListN.{length, take, drop, length-take, length-replicate}
+use Rattle.schwaemm.specs.Bytes.{same}
+use Rattle.tc_sparkle_aead.specs.declared.phase.Direction.{Direction}
+use Rattle.tc_sparkle_aead.specs.declared.phase.Direction.the-variants.{Encrypt, Decrypt}
+use Rattle.tc_sparkle_aead.specs.declared.phase.Phase.{Phase}
+use Rattle.tc_sparkle_aead.specs.declared.phase.Phase.the-variants.{Uninitialized, Init, Aad, Data, Final}
+use Rattle.tc_sparkle_aead.specs.declared.aead_error.AeadError.{AeadError}
+use Rattle.tc_sparkle_aead.specs.declared.aead_error.AeadError.the-variants.{NotInitialized, AlreadyFinalized, OutputTooShort, CiphertextTooShort, InputTooLong}
+use Rattle.tc_sparkle_aead.specs.declared.aead_error.AeadResult.{AeadResult}
+use Rattle.tc_sparkle_aead.specs.declared.aead_error.AeadResult.the-variants.{Ok, Err}
+use Rattle.tc_sparkle_aead.specs.declared.aead_init_error.AeadInitResult.{AeadInitResult}
+use Rattle.tc_sparkle_aead.specs.declared.aead_init_error.AeadInitResult.the-variants.{Ok as StartOk, Err as StartErr}
+use Rattle.tc_sparkle_aead.specs.declared.engine.SparkleEngine.{SparkleEngine}
+use Rattle.tc_sparkle_aead.specs.declared.engine.Pair.{Pair}
+use Rattle.tc_sparkle_aead.specs.Variant.{paramsOf}
+use Rattle.tc_sparkle_aead.specs.Checks.{opens, opening, heldIn, phaseCheck, headerCheck, updateLen, totalLen, aadCheck, dataCheck, endCheck, startCheck}
+use Rattle.tc_sparkle_aead.specs.Engine.{zeros, noMessage, noMac, noSteps, repeats, updateOutputLen, outputLen}
+use Rattle.tc_sparkle_aead.specs.Calls.{refused, initBy, aadBy, processAadBytes, dataBy, dataOutBy, dataAnswer, finalAnswer, heldBytes, openBlock, openEndOutBy, finalPoint, ended, addSteps, lastSteps, written, processBytes, processBytesOut, beginData, receivedTag, openTag, openEnd, openEndBy, sealEnd, finalBy, finalOutBy, doFinal, doFinalOut, afterHeader, withoutHeader}
+use Rattle.tc_sparkle_aead.proofs.CheckLaws.{updateLen-over, updateLen-fits, totalLen-over, totalLen-opening, totalLen-sealing, totalLen-sealing-over, startCheck-key, startCheck-nonce, startCheck-size, startCheck-opening, startCheck-sealing}
+use Rattle.tc_sparkle_aead.proofs.VariantLaws.{sizes, Small, small}
+use Rattle.schwaemm.specs.Blocks.{ready}
+use Rattle.schwaemm.specs.Schwaemm.{Params}
+use Rattle.schwaemm.proofs.RoundTrip.{same-of-equal, equal-of-same}
+use lib.Dec.{ltb, eqb·suc-zero}
+use borrow.Author.Tests.{lt-ltb, le-ltb, ne-eqb}
+use native.Mathlib.Decide.{ℕ-discrete, decLt}
+use native.Mathlib.Nat.{add-zero}
+use Rattle.tc_sparkle_aead.specs.Calls.{init as initCall}
+use Rattle.claims.specs.Call.{Call, Outcome, outcome, startOutcome, step}
+use Rattle.claims.specs.Call.Outcome.{ok, no}
+
+-- ---- Where a number comes back
+
+-- The phases that take data and an end, by their direction.
+pub data Taking (d : Direction) : Phase → Type 0 where
+  in-init : Taking d (Init d)
+  in-aad : Taking d (Aad d)
+  in-data : Taking d (Data d)
+
+-- The phases by their direction; Uninitialized counts as sealing.
+pub data Facing : Direction → Phase → Type 0 where
+  no-message : Facing Encrypt Uninitialized
+  of-init : {d : Direction} → Facing d (Init d)
+  of-aad : {d : Direction} → Facing d (Aad d)
+  of-data : {d : Direction} → Facing d (Data d)
+  of-final : {d : Direction} → Facing d (Final d)
+
+-- The held bytes h: 0 outside Data; at most a block, on an opening a tag and a block.
+abbrev pub holds : Params → Phase → ℕ → ℕ
+holds p Uninitialized n = 0
+holds p (Init d) n = 0
+holds p (Aad d) n = 0
+holds p (Data Encrypt) n = min n (p .rate)
+holds p (Data Decrypt) n = min n (p .key + p .rate)
+holds p (Final d) n = 0
+
+abbrev pub hOf : SparkleEngine → ℕ
+hOf e = holds (paramsOf (e .variant)) (e .current .phase) (e .current .held)
+
+-- The variant's bytes: key and tag; nonce and block.
+abbrev pub keyOf : SparkleEngine → ℕ
+keyOf e = paramsOf (e .variant) .key
+
+abbrev pub rateOf : SparkleEngine → ℕ
+rateOf e = paramsOf (e .variant) .rate
+
+-- What a data call writes when h + n is the sum: a byte stays, on an opening a tag and a byte; the rest rounded down to a
+-- multiple of the rate.
+abbrev pub dataWrites : Direction → Params → ℕ → ℕ
+dataWrites Encrypt p sum = (sum - 1) / p .rate * p .rate
+dataWrites Decrypt p sum = (sum - (p .key + 1)) / p .rate * p .rate
+
+-- What h bytes are with the tag; on an opening without it.
+abbrev pub endWrites : Direction → Params → ℕ → ℕ
+endWrites Encrypt p h = h + p .key
+endWrites Decrypt p h = h - p .key
+
+-- The sum that an output_len must not let pass 2^64 - 1.
+abbrev pub outputSum : Direction → Params → ℕ → ℕ
+outputSum Encrypt p sum = sum + p .key
+outputSum Decrypt p sum = sum
+
+-- When a call is refused, with which number and values: the lines of document 01's two tables, each with the checks
+-- before it passed.
+pub data Refused (e : SparkleEngine) : Call → List ℕ → Type 0 where
+  key-length : {d : Direction} {key nonce header : List ℕ} {size : ℕ} → (length key ≡ keyOf e → ⊥)
+      → Refused e (Call.start d key nonce size header) (1 ∷ (length key ∷ []))
+  nonce-length : {d : Direction} {key nonce header : List ℕ} {size : ℕ} → length key ≡ keyOf e
+      → (length nonce ≡ rateOf e → ⊥) → Refused e (Call.start d key nonce size header) (2 ∷ (length nonce ∷ []))
+  mac-size : {d : Direction} {key nonce header : List ℕ} {size : ℕ} → length key ≡ keyOf e → length nonce ≡ rateOf e
+      → (size ≡ keyOf e → ⊥) → Refused e (Call.start d key nonce size header) (3 ∷ (size ∷ []))
+  data-room : {d : Direction} {input out : List ℕ} → Taking d (e .current .phase) → hOf e + length input < 2 ^ 64
+      → length out < dataWrites d (paramsOf (e .variant)) (hOf e + length input)
+      → Refused e (Call.message input out)
+      (4 ∷ (dataWrites d (paramsOf (e .variant)) (hOf e + length input) ∷ (length out ∷ [])))
+  end-room : {d : Direction} {out : List ℕ} → Taking d (e .current .phase)
+      → length out < endWrites d (paramsOf (e .variant)) (hOf e)
+      → Refused e (Call.end out) (4 ∷ (endWrites d (paramsOf (e .variant)) (hOf e) ∷ (length out ∷ [])))
+  no-tag : {out : List ℕ} → Taking Decrypt (e .current .phase) → hOf e < keyOf e
+      → Refused e (Call.end out) (5 ∷ (keyOf e ∷ (hOf e ∷ [])))
+  tag-differs : {out : List ℕ} → e .current .phase ≡ Data Decrypt → keyOf e ≤ hOf e → hOf e - keyOf e ≤ length out
+      → (receivedTag e ≡ openTag e → ⊥) → Refused e (Call.end out) (6 ∷ [])
+  data-sum : {d : Direction} {input out : List ℕ} → Taking d (e .current .phase) → 2 ^ 64 ≤ hOf e + length input
+      → Refused e (Call.message input out) (7 ∷ [])
+  update-sum : {n : ℕ} → 2 ^ 64 ≤ hOf e + n → Refused e (Call.update n) (7 ∷ [])
+  output-sum : {d : Direction} {n : ℕ} → Facing d (e .current .phase)
+      → 2 ^ 64 ≤ outputSum d (paramsOf (e .variant)) (hOf e + n) → Refused e (Call.output n) (7 ∷ [])
+  header-not-initialized : {input : List ℕ} → 0 < length input → e .current .phase ≡ Uninitialized
+      → Refused e (Call.header input) (8 ∷ [])
+  data-not-initialized : {input out : List ℕ} → e .current .phase ≡ Uninitialized
+      → Refused e (Call.message input out) (8 ∷ [])
+  end-not-initialized : {out : List ℕ} → e .current .phase ≡ Uninitialized → Refused e (Call.end out) (8 ∷ [])
+  header-after-data : {d : Direction} {input : List ℕ} → 0 < length input → e .current .phase ≡ Data d
+      → Refused e (Call.header input) (9 ∷ [])
+  header-finalized : {d : Direction} {input : List ℕ} → 0 < length input → e .current .phase ≡ Final d
+      → Refused e (Call.header input) (10 ∷ [])
+  data-finalized : {d : Direction} {input out : List ℕ} → e .current .phase ≡ Final d
+      → Refused e (Call.message input out) (10 ∷ [])
+  end-finalized : {d : Direction} {out : List ℕ} → e .current .phase ≡ Final d → Refused e (Call.end out) (10 ∷ [])
+  nonce-reuse : {key nonce header : List ℕ} {size : ℕ} → length key ≡ keyOf e → length nonce ≡ rateOf e → size ≡ keyOf e
+      → e .pair .loaded ≡ true → take (keyOf e) (e .pair .key) ≡ key → take (rateOf e) (e .pair .nonce) ≡ nonce
+      → Refused e (Call.start Encrypt key nonce size header) (11 ∷ [])
+
+-- ---- The checks, by the phases that take calls
+
+heldIn-is : (p : Params) (phase : Phase) (n : ℕ) → heldIn p phase n ≡ holds p phase n
+heldIn-is p Uninitialized n = refl
+heldIn-is p (Init d) n = refl
+heldIn-is p (Aad d) n = refl
+heldIn-is p (Data Encrypt) n = ap (min n) (omega arith)
+heldIn-is p (Data Decrypt) n = refl
+heldIn-is p (Final d) n = refl
+
+holds-bound : (p : Params) (phase : Phase) (n : ℕ) → holds p phase n ≤ p .key + p .rate
+holds-bound p Uninitialized n = omega arith
+holds-bound p (Init d) n = omega arith
+holds-bound p (Aad d) n = omega arith
+holds-bound p (Data Encrypt) n = omega arith
+holds-bound p (Data Decrypt) n = omega arith
+holds-bound p (Final d) n = omega arith
+
+taking-ok : {d : Direction} {phase : Phase} → Taking d phase → phaseCheck phase ≡ Ok 0
+taking-ok in-init = refl
+taking-ok in-aad = refl
+taking-ok in-data = refl
+
+taking-facing : {d : Direction} {phase : Phase} → Taking d phase → Facing d phase
+taking-facing in-init = of-init
+taking-facing in-aad = of-aad
+taking-facing in-data = of-data
+
+facing-opens : {d : Direction} {phase : Phase} → Facing d phase → opening phase ≡ opens d
+facing-opens no-message = refl
+facing-opens of-init = refl
+facing-opens of-aad = refl
+facing-opens of-data = refl
+facing-opens of-final = refl
+
+ready-writes : (p : Params) (d : Direction) (sum : ℕ)
+    → ready (p .rate) (cond (opens d) (p .key) 0) sum * p .rate ≡ dataWrites d p sum
+unfolding ready
+ready-writes p Encrypt sum = refl
+ready-writes p Decrypt sum = refl
+
+-- update_output_len and output_len by the direction.
+module _ (p : Params) (d : Direction) (phase : Phase) (k n : ℕ) where
+  update-over : 2 ^ 64 ≤ holds p phase k + n → updateLen p phase k n ≡ Err InputTooLong
+  update-over over = updateLen-over p phase k n (rw heldIn-is over)
+
+  update-fits : Facing d phase → holds p phase k + n < 2 ^ 64
+      → updateLen p phase k n ≡ Ok (dataWrites d p (holds p phase k + n))
+  update-fits f fits = updateLen-fits p phase k n (rw heldIn-is fits) ∙ rw (heldIn-is, facing-opens f, ready-writes)
+
+output-over : (p : Params) (d : Direction) (phase : Phase) (k n : ℕ) → Facing d phase
+    → 2 ^ 64 ≤ outputSum d p (holds p phase k + n) → totalLen p phase k n ≡ Err InputTooLong
+output-over p Encrypt phase k n f over = totalLen-sealing-over p phase k n (facing-opens f) (rw heldIn-is over)
+output-over p Decrypt phase k n f over = totalLen-over p phase k n (rw heldIn-is over)
+
+output-fits : (p : Params) (d : Direction) (phase : Phase) (k n : ℕ) → Facing d phase
+    → outputSum d p (holds p phase k + n) < 2 ^ 64 → totalLen p phase k n ≡ Ok (endWrites d p (holds p phase k + n))
+output-fits p Encrypt phase k n f fits =
+    totalLen-sealing p phase k n (facing-opens f) (rw heldIn-is fits) ∙ rw heldIn-is
+output-fits p Decrypt phase k n f fits =
+    totalLen-opening p phase k n (facing-opens f) (rw heldIn-is fits) ∙ rw heldIn-is
+
+-- A data call and an end in a phase that takes them.
+module _ (p : Params) (d : Direction) (phase : Phase) (k n available : ℕ) (t : Taking d phase) where
+  data-sum-law : 2 ^ 64 ≤ holds p phase k + n → dataCheck p phase k n available ≡ Err InputTooLong
+  unfolding dataCheck
+  data-sum-law over = rw (taking-ok t, update-over p d phase k n over)
+
+  data-room-law : holds p phase k + n < 2 ^ 64 → available < dataWrites d p (holds p phase k + n)
+      → dataCheck p phase k n available ≡ Err (OutputTooShort (dataWrites d p (holds p phase k + n)) available)
+  unfolding dataCheck
+  data-room-law fits short = rw (taking-ok t, update-fits p d phase k n (taking-facing t) fits, lt-ltb _ _ short)
+
+  data-taken : holds p phase k + n < 2 ^ 64 → dataWrites d p (holds p phase k + n) ≤ available
+      → dataCheck p phase k n available ≡ Ok (dataWrites d p (holds p phase k + n))
+  unfolding dataCheck
+  data-taken fits enough = rw (taking-ok t, update-fits p d phase k n (taking-facing t) fits, le-ltb _ _ enough)
+
+-- the sum of an end never passes 2^64 - 1
+end-sum : (p : Params) (d : Direction) (phase : Phase) (k : ℕ) → Small p
+    → outputSum d p (holds p phase k + 0) < 2 ^ 64
+end-sum p Encrypt phase k s = omega (arith, holds-bound p phase k)
+end-sum p Decrypt phase k s = omega (arith, holds-bound p phase k)
+
+end-fits : (p : Params) (s : Small p) (d : Direction) (phase : Phase) (k : ℕ) → Facing d phase
+    → totalLen p phase k 0 ≡ Ok (endWrites d p (holds p phase k))
+end-fits p s d phase k f = rw add-zero at (output-fits p d phase k 0 f (end-sum p d phase k s))
+
+module _ (p : Params) (s : Small p) (d : Direction) (phase : Phase) (k available : ℕ) (t : Taking d phase) where
+  end-room-law : available < endWrites d p (holds p phase k)
+      → endCheck p phase k available ≡ Err (OutputTooShort (endWrites d p (holds p phase k)) available)
+  unfolding endCheck
+  end-room-law short = rw (taking-ok t, end-fits p s d phase k (taking-facing t), lt-ltb _ _ short)
+
+module _ (p : Params) (s : Small p) (phase : Phase) (k available : ℕ) where
+  seal-taken : Taking Encrypt phase → holds p phase k + p .key ≤ available
+      → endCheck p phase k available ≡ Ok (holds p phase k + p .key)
+  unfolding endCheck
+  seal-taken t enough =
+      rw (
+        taking-ok t,
+        end-fits p s Encrypt phase k (taking-facing t),
+        le-ltb _ _ enough,
+        facing-opens (taking-facing t),
+      )
+
+  module _ (t : Taking Decrypt phase) where
+    no-tag-law : holds p phase k < p .key
+        → endCheck p phase k available ≡ Err (CiphertextTooShort (p .key) (holds p phase k))
+    unfolding endCheck
+    no-tag-law short =
+        let enough : holds p phase k - p .key ≤ available = omega arith in
+        rw (
+          taking-ok t,
+          end-fits p s Decrypt phase k (taking-facing t),
+          le-ltb _ _ enough,
+          facing-opens (taking-facing t),
+          heldIn-is,
+          lt-ltb _ _ short,
+        )
+
+    open-taken : p .key ≤ holds p phase k → holds p phase k - p .key ≤ available
+        → endCheck p phase k available ≡ Ok (holds p phase k - p .key)
+    unfolding endCheck
+    open-taken whole enough =
+        rw (
+          taking-ok t,
+          end-fits p s Decrypt phase k (taking-facing t),
+          le-ltb _ _ enough,
+          facing-opens (taking-facing t),
+          heldIn-is,
+          le-ltb _ _ whole,
+        )
+
+-- A header call that is not empty.
+header-law : (phase : Phase) (n : ℕ) → 0 < n → aadCheck phase n ≡ headerCheck phase
+unfolding aadCheck
+header-law phase n h = rw (ne-eqb n 0 (omega arith))
+
+-- ---- Both directions
+
+not-same : (u v : List ℕ) → (u ≡ v → ⊥) → same u v ≡ false
+not-same u v differs = go (same u v) refl
+  where
+    go : (b : Bool) → same u v ≡ b → b ≡ false
+    go true q = absurd (differs (equal-of-same u v q))
+    go false q = refl
+
+begun : (e : SparkleEngine) (d : Direction) → e .current .phase ≡ Data d → beginData e ≡ e
+unfolding beginData withoutHeader afterHeader
+begun e d q = rw q
+
+opening-end : (e : SparkleEngine) (n : ℕ) (b : Bool) → e .current .phase ≡ Data Decrypt
+    → same (receivedTag e) (openTag e) ≡ b → finalBy (Ok n) e ≡ openEndBy b e n
+unfolding openEnd
+opening-end e n b q h = rw (begun e Decrypt q, h, q)
+
+module _ (e : SparkleEngine) where
+  -- Where its line holds, a refusal comes back.
+  pub refused-comes-back : (c : Call) (r : List ℕ) → Refused e c r → step e c .outcome ≡ no r
+  unfolding step initCall processAadBytes processBytes doFinal updateOutputLen outputLen repeats
+  refused-comes-back c r (key-length w) = rw startCheck-key
+  refused-comes-back c r (nonce-length k w) = rw startCheck-nonce
+  refused-comes-back c r (mac-size k n w) = rw startCheck-size
+  refused-comes-back c r (data-room t fits short) = rw (data-room-law _ _ _ _ _ _ t fits short)
+  refused-comes-back c r (end-room t short) = rw (end-room-law _ (small (e .variant)) _ _ _ _ t short)
+  refused-comes-back c r (no-tag t short) = rw (no-tag-law _ (small (e .variant)) _ _ _ t short)
+  refused-comes-back c r (tag-differs q whole enough differs) =
+      let t : Taking Decrypt (e .current .phase) = rw q in-data in
+      rw (open-taken _ (small (e .variant)) _ _ _ t whole enough, opening-end e _ false q (not-same _ _ differs))
+  refused-comes-back c r (data-sum t over) = rw (data-sum-law _ _ _ _ _ _ t over)
+  refused-comes-back c r (update-sum over) = rw (update-over _ Encrypt _ _ _ over)
+  refused-comes-back c r (output-sum f over) = rw (output-over _ _ _ _ _ f over)
+  refused-comes-back c r (header-not-initialized some q) = rw (header-law, q)
+  refused-comes-back c r (data-not-initialized q) = unfold dataCheck in rw q
+  refused-comes-back c r (end-not-initialized q) = unfold endCheck in rw q
+  refused-comes-back c r (header-after-data some q) = rw (header-law, q)
+  refused-comes-back c r (header-finalized some q) = rw (header-law, q)
+  refused-comes-back c r (data-finalized q) = unfold dataCheck in rw q
+  refused-comes-back c r (end-finalized q) = unfold endCheck in rw q
+  refused-comes-back c r (nonce-reuse k n s loaded key nonce) =
+      rw (startCheck-sealing (paramsOf (e .variant)) Encrypt _ _ _ _ k n s refl, loaded, same-of-equal _ _ key, same-of-equal _ _ nonce)
+
+both-true : (c d : Bool) → cond c d false ≡ true → (c ≡ true) × (d ≡ true)
+both-true true d q = (refl, q)
+both-true false d q = absurd (let z : _≡_ {A = ℕ} 0 1 = cc in omega arith)
+
+repeats-true : (p : Params) (pair : Pair) (key nonce : List ℕ) → repeats p pair key nonce ≡ true
+    → (pair .loaded ≡ true) × (take (p .key) (pair .key) ≡ key) × (take (p .rate) (pair .nonce) ≡ nonce)
+unfolding repeats
+repeats-true p pair key nonce q =
+    let t = both-true _ _ q in
+    let u = both-true _ _ (t .1) in
+    (t .0, equal-of-same _ _ (u .0), equal-of-same _ _ (u .1))
+
+module _ (e : SparkleEngine) (key nonce header : List ℕ) (size : ℕ) (k : length key ≡ keyOf e)
+    (n : length nonce ≡ rateOf e) (s : size ≡ keyOf e) where
+  start-opening : step e (Call.start Decrypt key nonce size header) .outcome ≡ ok 0
+  unfolding step initCall
+  start-opening = rw (startCheck-opening (paramsOf (e .variant)) Decrypt _ _ _ _ k n s refl)
+
+  start-fresh : repeats (paramsOf (e .variant)) (e .pair) key nonce ≡ false
+      → step e (Call.start Encrypt key nonce size header) .outcome ≡ ok 0
+  unfolding step initCall
+  start-fresh q = rw (startCheck-sealing (paramsOf (e .variant)) Encrypt _ _ _ _ k n s refl, q)
+
+data-count : (e : SparkleEngine) (d : Direction) (input out : List ℕ) → Taking d (e .current .phase)
+    → hOf e + length input < 2 ^ 64 → dataWrites d (paramsOf (e .variant)) (hOf e + length input) ≤ length out
+    → step e (Call.message input out) .outcome ≡ ok (dataWrites d (paramsOf (e .variant)) (hOf e + length input))
+unfolding step processBytes
+data-count e d input out t fits enough = rw (data-taken _ _ _ _ _ _ t fits enough)
+
+seal-count : (e : SparkleEngine) (out : List ℕ) → Taking Encrypt (e .current .phase) → hOf e + keyOf e ≤ length out
+    → step e (Call.end out) .outcome ≡ ok (hOf e + keyOf e)
+unfolding step doFinal sealEnd
+seal-count e out t enough =
+    rw (seal-taken _ (small (e .variant)) _ _ _ t enough, facing-opens (taking-facing t))
+
+-- with a tag's bytes at hand an opening is in Data
+whole-in-data : (p : Params) (phase : Phase) (k : ℕ) → 0 < p .key → Taking Decrypt phase → p .key ≤ holds p phase k
+    → phase ≡ Data Decrypt
+whole-in-data p phase k positive in-init whole = absurd (omega arith)
+whole-in-data p phase k positive in-aad whole = absurd (omega arith)
+whole-in-data p phase k positive in-data whole = refl
+
+module _ (e : SparkleEngine) (out : List ℕ) (q : e .current .phase ≡ Data Decrypt) (whole : keyOf e ≤ hOf e)
+    (enough : hOf e - keyOf e ≤ length out) where
+  open-count : receivedTag e ≡ openTag e → step e (Call.end out) .outcome ≡ ok (hOf e - keyOf e)
+  unfolding step doFinal
+  open-count equal =
+      let t : Taking Decrypt (e .current .phase) = rw q in-data in
+      rw (open-taken _ (small (e .variant)) _ _ _ t whole enough, opening-end e _ true q (same-of-equal _ _ equal))
+
+facing : (phase : Phase) → (d : Direction) × Facing d phase
+facing Uninitialized = (Encrypt, no-message)
+facing (Init d) = (d, of-init)
+facing (Aad d) = (d, of-aad)
+facing (Data d) = (d, of-data)
+facing (Final d) = (d, of-final)
+
+module _ (e : SparkleEngine) (d : Direction) (n : ℕ) (f : Facing d (e .current .phase)) where
+  update-count : hOf e + n < 2 ^ 64
+      → step e (Call.update n) .outcome ≡ ok (dataWrites d (paramsOf (e .variant)) (hOf e + n))
+  unfolding step updateOutputLen
+  update-count fits = rw (update-fits _ _ _ _ _ f fits)
+
+  output-count : outputSum d (paramsOf (e .variant)) (hOf e + n) < 2 ^ 64
+      → step e (Call.output n) .outcome ≡ ok (endWrites d (paramsOf (e .variant)) (hOf e + n))
+  unfolding step outputLen
+  output-count fits = rw (output-fits _ _ _ _ _ f fits)
+
+-- What an outcome tells: a count, or a refusal whose line holds.
+data Told (e : SparkleEngine) (c : Call) : Outcome → Type 0 where
+  count : (n : ℕ) → Told e c (ok n)
+  number : {r : List ℕ} → Refused e c r → Told e c (no r)
+
+module _ (e : SparkleEngine) where
+  told-number : {c : Call} {r : List ℕ} → Refused e c r → Told e c (step e c .outcome)
+  told-number {c} {r} x = rw (refused-comes-back e c r x) (number x)
+
+  told-count : {c : Call} {n : ℕ} → step e c .outcome ≡ ok n → Told e c (step e c .outcome)
+  told-count {c} {n} q = rw q (count n)
+
+  told-start : (d : Direction) (key nonce header : List ℕ) (size : ℕ)
+      → Told e (Call.start d key nonce size header) (step e (Call.start d key nonce size header) .outcome)
+  told-start d key nonce header size = by-key (ℕ-discrete (length key) (keyOf e))
+    where
+      by-repeat : (d : Direction) → length key ≡ keyOf e → length nonce ≡ rateOf e → size ≡ keyOf e
+          → Told e (Call.start d key nonce size header) (step e (Call.start d key nonce size header) .outcome)
+      by-repeat Encrypt k n s = by-pair (repeats (paramsOf (e .variant)) (e .pair) key nonce) refl
+        where
+          by-pair : (b : Bool) → repeats (paramsOf (e .variant)) (e .pair) key nonce ≡ b
+              → Told e (Call.start Encrypt key nonce size header) (step e (Call.start Encrypt key nonce size header) .outcome)
+          by-pair true q =
+              let t = repeats-true (paramsOf (e .variant)) (e .pair) key nonce q in
+              told-number (nonce-reuse k n s (t .0) (t .1) (t .2))
+          by-pair false q = told-count (start-fresh e key nonce header size k n s q)
+      by-repeat Decrypt k n s = told-count (start-opening e key nonce header size k n s)
+
+      by-size : length key ≡ keyOf e → length nonce ≡ rateOf e → Dec (size ≡ keyOf e)
+          → Told e (Call.start d key nonce size header) (step e (Call.start d key nonce size header) .outcome)
+      by-size k n (Dec.no w) = told-number (mac-size k n w)
+      by-size k n (Dec.yes s) = by-repeat d k n s
+
+      by-nonce : length key ≡ keyOf e → Dec (length nonce ≡ rateOf e)
+          → Told e (Call.start d key nonce size header) (step e (Call.start d key nonce size header) .outcome)
+      by-nonce k (Dec.no w) = told-number (nonce-length k w)
+      by-nonce k (Dec.yes n) = by-size k n (ℕ-discrete size (keyOf e))
+
+      by-key : Dec (length key ≡ keyOf e)
+          → Told e (Call.start d key nonce size header) (step e (Call.start d key nonce size header) .outcome)
+      by-key (Dec.no w) = told-number (key-length w)
+      by-key (Dec.yes k) = by-nonce k (ℕ-discrete (length nonce) (rateOf e))
+
+  told-header : (phase : Phase) (input : List ℕ) → e .current .phase ≡ phase
+      → Told e (Call.header input) (step e (Call.header input) .outcome)
+  unfolding step processAadBytes aadCheck
+  told-header phase [] q = count 0
+  told-header Uninitialized (x ∷ input) q =
+      let some : 0 < length (x ∷ input) = omega arith in told-number (header-not-initialized some q)
+  told-header (Init d) (x ∷ input) q = rw (q, eqb·suc-zero) (count 0)
+  told-header (Aad d) (x ∷ input) q = rw (q, eqb·suc-zero) (count 0)
+  told-header (Data d) (x ∷ input) q =
+      let some : 0 < length (x ∷ input) = omega arith in told-number (header-after-data some q)
+  told-header (Final d) (x ∷ input) q =
+      let some : 0 < length (x ∷ input) = omega arith in told-number (header-finalized some q)
+
+  told-taken : (d : Direction) (input out : List ℕ) → Taking d (e .current .phase)
+      → Told e (Call.message input out) (step e (Call.message input out) .outcome)
+  told-taken d input out t = by-sum (decLt (hOf e + length input) (2 ^ 64))
+    where
+      by-room : hOf e + length input < 2 ^ 64
+          → Dec (length out < dataWrites d (paramsOf (e .variant)) (hOf e + length input))
+          → Told e (Call.message input out) (step e (Call.message input out) .outcome)
+      by-room fits (Dec.yes short) = told-number (data-room t fits short)
+      by-room fits (Dec.no w) = told-count (data-count e d input out t fits (omega arith))
+
+      by-sum : Dec (hOf e + length input < 2 ^ 64)
+          → Told e (Call.message input out) (step e (Call.message input out) .outcome)
+      by-sum (Dec.yes fits) = by-room fits (decLt (length out) (dataWrites d (paramsOf (e .variant)) (hOf e + length input)))
+      by-sum (Dec.no w) = let over : 2 ^ 64 ≤ hOf e + length input = omega arith in told-number (data-sum t over)
+
+  told-message : (phase : Phase) (input out : List ℕ) → e .current .phase ≡ phase
+      → Told e (Call.message input out) (step e (Call.message input out) .outcome)
+  told-message Uninitialized input out q = told-number (data-not-initialized q)
+  told-message (Init d) input out q = told-taken d input out (rw q in-init)
+  told-message (Aad d) input out q = told-taken d input out (rw q in-aad)
+  told-message (Data d) input out q = told-taken d input out (rw q in-data)
+  told-message (Final d) input out q = told-number (data-finalized q)
+
+  told-ended : (d : Direction) (out : List ℕ) → Taking d (e .current .phase)
+      → Told e (Call.end out) (step e (Call.end out) .outcome)
+  told-ended d out t = by-room d t (decLt (length out) (endWrites d (paramsOf (e .variant)) (hOf e)))
+    where
+      by-tag : Taking Decrypt (e .current .phase) → keyOf e ≤ hOf e → hOf e - keyOf e ≤ length out
+          → Told e (Call.end out) (step e (Call.end out) .outcome)
+      by-tag t whole enough = go (same (receivedTag e) (openTag e)) refl
+        where
+          q : e .current .phase ≡ Data Decrypt
+          q = whole-in-data _ _ _ (sizes (e .variant) .key-positive) t whole
+
+          go : (b : Bool) → same (receivedTag e) (openTag e) ≡ b → Told e (Call.end out) (step e (Call.end out) .outcome)
+          go true equal = told-count (open-count e out q whole enough (equal-of-same _ _ equal))
+          go false differs =
+              let wrong : receivedTag e ≡ openTag e → ⊥ =
+              (λ equal. let w = same-of-equal _ _ equal in let z : _≡_ {A = ℕ} 0 1 = cc in omega arith)
+              in told-number (tag-differs q whole enough wrong)
+
+      by-length : Taking Decrypt (e .current .phase) → hOf e - keyOf e ≤ length out → Dec (hOf e < keyOf e)
+          → Told e (Call.end out) (step e (Call.end out) .outcome)
+      by-length t enough (Dec.yes short) = told-number (no-tag t short)
+      by-length t enough (Dec.no w) = by-tag t (omega arith) enough
+
+      by-room : (d : Direction) → Taking d (e .current .phase)
+          → Dec (length out < endWrites d (paramsOf (e .variant)) (hOf e))
+          → Told e (Call.end out) (step e (Call.end out) .outcome)
+      by-room d t (Dec.yes short) = told-number (end-room t short)
+      by-room Encrypt t (Dec.no w) = told-count (seal-count e out t (omega arith))
+      by-room Decrypt t (Dec.no w) = by-length t (omega arith) (decLt (hOf e) (keyOf e))
+
+  told-end : (phase : Phase) (out : List ℕ) → e .current .phase ≡ phase
+      → Told e (Call.end out) (step e (Call.end out) .outcome)
+  told-end Uninitialized out q = told-number (end-not-initialized q)
+  told-end (Init d) out q = told-ended d out (rw q in-init)
+  told-end (Aad d) out q = told-ended d out (rw q in-aad)
+  told-end (Data d) out q = told-ended d out (rw q in-data)
+  told-end (Final d) out q = told-number (end-finalized q)
+
+  told-update : (n : ℕ) → Dec (hOf e + n < 2 ^ 64) → Told e (Call.update n) (step e (Call.update n) .outcome)
+  told-update n (Dec.yes fits) =
+      let f = facing (e .current .phase) in told-count (update-count e (f .0) n (f .1) fits)
+  told-update n (Dec.no w) = let over : 2 ^ 64 ≤ hOf e + n = omega arith in told-number (update-sum over)
+
+  told-output : (n : ℕ) (d : Direction) → Facing d (e .current .phase)
+      → Dec (outputSum d (paramsOf (e .variant)) (hOf e + n) < 2 ^ 64)
+      → Told e (Call.output n) (step e (Call.output n) .outcome)
+  told-output n d f (Dec.yes fits) = told-count (output-count e d n f fits)
+  told-output n d f (Dec.no w) =
+      let over : 2 ^ 64 ≤ outputSum d (paramsOf (e .variant)) (hOf e + n) = omega arith in told-number (output-sum f over)
+
+  told : (c : Call) → Told e c (step e c .outcome)
+  unfolding step
+  told (Call.start d key nonce size header) = told-start d key nonce header size
+  told (Call.header input) = told-header (e .current .phase) input refl
+  told (Call.message input out) = told-message (e .current .phase) input out refl
+  told (Call.end out) = told-end (e .current .phase) out refl
+  told Call.reset = count 0
+  told Call.tag = count _
+  told (Call.update n) = told-update n (decLt (hOf e + n) (2 ^ 64))
+  told (Call.output n) =
+      let f = facing (e .current .phase) in
+      told-output n (f .0) (f .1) (decLt (outputSum (f .0) (paramsOf (e .variant)) (hOf e + n)) (2 ^ 64))
+
+  -- And it comes back nowhere else.
+  pub comes-back-refused : (c : Call) (r : List ℕ) → step e c .outcome ≡ no r → Refused e c r
+  comes-back-refused c r q = go (step e c .outcome) (told c) q
+    where
+      go : (o : Outcome) → Told e c o → o ≡ no r → Refused e c r
+      go o (count n) q = absurd (let z : _≡_ {A = ℕ} 0 1 = cc in omega arith)
+      go o (number {r = l} t) q = subst (Refused e c) (let z : l ≡ r = cc in z) t
+
+-- A number comes back where its line holds, and nowhere else.
+pub refusals : (e : SparkleEngine) (c : Call) (r : List ℕ) → (step e c .outcome ≡ no r) ↔ Refused e c r
+refusals e c r = (comes-back-refused e c r, refused-comes-back e c r)
+
+-- ---- What a number leaves
+
+-- The output buffer that a call lends, if it lends one.
+abbrev pub lent : Call → List ℕ
+lent (Call.start d key nonce size header) = []
+lent (Call.header input) = []
+lent (Call.message input out) = out
+lent (Call.end out) = out
+lent Call.reset = []
+lent Call.tag = []
+lent (Call.update n) = []
+lent (Call.output n) = []
+
+-- The numbers of a refused start, and the numbers after which nothing has changed; 6 is the eleventh.
+pub data OfStart : ℕ → Type 0 where
+  one : OfStart 1
+  two : OfStart 2
+  three : OfStart 3
+  eleven : OfStart 11
+
+pub data Unchanging : ℕ → Type 0 where
+  four : Unchanging 4
+  five : Unchanging 5
+  seven : Unchanging 7
+  eight : Unchanging 8
+  nine : Unchanging 9
+  ten : Unchanging 10
+
+-- Which of the eleven a refusal is.
+pub data Numbered : List ℕ → Type 0 where
+  of-start : {n : ℕ} {values : List ℕ} → OfStart n → Numbered (n ∷ values)
+  of-tag : {values : List ℕ} → Numbered (6 ∷ values)
+  unchanging : {n : ℕ} {values : List ℕ} → Unchanging n → Numbered (n ∷ values)
+
+numbered : (e : SparkleEngine) (c : Call) (r : List ℕ) → Refused e c r → Numbered r
+numbered e c r (key-length w) = of-start one
+numbered e c r (nonce-length k w) = of-start two
+numbered e c r (mac-size k n w) = of-start three
+numbered e c r (data-room t fits short) = unchanging four
+numbered e c r (end-room t short) = unchanging four
+numbered e c r (no-tag t short) = unchanging five
+numbered e c r (tag-differs q whole enough differs) = of-tag
+numbered e c r (data-sum t over) = unchanging seven
+numbered e c r (update-sum over) = unchanging seven
+numbered e c r (output-sum f over) = unchanging seven
+numbered e c r (header-not-initialized some q) = unchanging eight
+numbered e c r (data-not-initialized q) = unchanging eight
+numbered e c r (end-not-initialized q) = unchanging eight
+numbered e c r (header-after-data some q) = unchanging nine
+numbered e c r (header-finalized some q) = unchanging ten
+numbered e c r (data-finalized q) = unchanging ten
+numbered e c r (end-finalized q) = unchanging ten
+numbered e c r (nonce-reuse k n s loaded key nonce) = of-start eleven
+
+-- A call that is refused comes back with one of eleven numbers.
+pub eleven-numbers : (e : SparkleEngine) (c : Call) (r : List ℕ) → step e c .outcome ≡ no r → Numbered r
+eleven-numbers e c r q = numbered e c r (comes-back-refused e c r q)
+
+-- Everything wiped but the variant and the last loaded pair; the buffer, if one is lent, as it was.
+pub record Wiped (e : SparkleEngine) (c : Call) : Type 0 where
+  pub engine : step e c .engine
+      ≡ record {
+        variant = e .variant;
+        current = noMessage;
+        initial = noMessage;
+        pair = e .pair;
+        mac = noMac;
+        steps = noSteps;
+      }
+  pub buffer : step e c .buffer ≡ lent c
+
+start-leaves : (k : AeadInitResult) (e : SparkleEngine) (d : Direction) (key nonce header r : List ℕ)
+    → startOutcome (initBy k e d key nonce header .answer) ≡ no r → initBy k e d key nonce header .engine ≡ refused e
+start-leaves StartOk e d key nonce header r q = absurd (let z : _≡_ {A = ℕ} 0 1 = cc in omega arith)
+start-leaves (StartErr x) e d key nonce header r q = refl
+
+module _ (e : SparkleEngine) where
+  start-wipes : (d : Direction) (key nonce header r : List ℕ) (size : ℕ)
+      → step e (Call.start d key nonce size header) .outcome ≡ no r → Wiped e (Call.start d key nonce size header)
+  unfolding step initCall refused
+  start-wipes d key nonce header r size q =
+      record {
+        engine =
+            start-leaves (startCheck (paramsOf (e .variant)) d (length key) (length nonce) size
+            (repeats (paramsOf (e .variant)) (e .pair) key nonce)) e d key nonce header r q;
+        buffer = refl;
+      }
+
+  start-number : (c : Call) (n : ℕ) (values : List ℕ) → OfStart n → Refused e c (n ∷ values)
+      → step e c .outcome ≡ no (n ∷ values) → Wiped e c
+  start-number c n values one (key-length {d} {key} {nonce} {header} {size} w) q = start-wipes d key nonce header _ size q
+  start-number c n values two (nonce-length {d} {key} {nonce} {header} {size} k w) q =
+      start-wipes d key nonce header _ size q
+  start-number c n values three (mac-size {d} {key} {nonce} {header} {size} k m w) q =
+      start-wipes d key nonce header _ size q
+  start-number c n values eleven (nonce-reuse {key} {nonce} {header} {size} k m s l x y) q =
+      start-wipes Encrypt key nonce header _ size q
+
+  -- A refused start leaves no message, and of what was kept only the last loaded pair.
+  pub start-number-leaves : (c : Call) (n : ℕ) (values : List ℕ) → OfStart n → step e c .outcome ≡ no (n ∷ values)
+      → Wiped e c
+  start-number-leaves c n values o q = start-number c n values o (comes-back-refused e c (n ∷ values) q) q
+
+-- Neither engine nor buffer has changed.
+pub record Unchanged (e : SparkleEngine) (c : Call) : Type 0 where
+  pub engine : step e c .engine ≡ e
+  pub buffer : step e c .buffer ≡ lent c
+
+header-leaves : (k : AeadResult) (e : SparkleEngine) (input r : List ℕ) → outcome (aadBy k e input .answer) ≡ no r
+    → aadBy k e input .engine ≡ e
+header-leaves (Err x) e input r q = refl
+header-leaves (Ok n) e [] r q = refl
+header-leaves (Ok n) e (x ∷ input) r q = absurd (let z : _≡_ {A = ℕ} 0 1 = cc in omega arith)
+
+data-leaves : (k : AeadResult) (e : SparkleEngine) (input out r : List ℕ) → outcome (dataBy k e input .answer) ≡ no r
+    → (dataBy k e input .engine ≡ e) × (dataOutBy k e input out ≡ out)
+data-leaves (Err x) e input out r q = (refl, refl)
+data-leaves (Ok n) e input out r q = absurd (let z : _≡_ {A = ℕ} 0 1 = cc in omega arith)
+
+module _ (e : SparkleEngine) where
+  header-unchanged : (input r : List ℕ) → step e (Call.header input) .outcome ≡ no r → Unchanged e (Call.header input)
+  unfolding step processAadBytes
+  header-unchanged input r q =
+      record { engine = header-leaves (aadCheck (e .current .phase) (length input)) e input r q; buffer = refl }
+
+  data-unchanged : (input out r : List ℕ) → step e (Call.message input out) .outcome ≡ no r
+      → Unchanged e (Call.message input out)
+  unfolding step processBytes processBytesOut
+  data-unchanged input out r q =
+      let t = data-leaves (dataAnswer e (length input) (length out)) e input out r q in
+      record { engine = t .0; buffer = t .1 }
+
+  end-unchanged : (out : List ℕ) (x : AeadError) → finalAnswer e (length out) ≡ Err x → Unchanged e (Call.end out)
+  unfolding step doFinal doFinalOut
+  end-unchanged out x h = record { engine = rw h; buffer = rw h }
+
+  unchanged : (c : Call) (n : ℕ) (values : List ℕ) → Unchanging n → Refused e c (n ∷ values)
+      → step e c .outcome ≡ no (n ∷ values) → Unchanged e c
+  unfolding step endCheck
+  unchanged c n values four (data-room {input = input} {out = out} t fits short) q = data-unchanged input out _ q
+  unchanged c n values four (end-room {out = out} t short) q =
+      end-unchanged out _ (end-room-law _ (small (e .variant)) _ _ _ _ t short)
+  unchanged c n values five (no-tag {out = out} t short) q =
+      end-unchanged out _ (no-tag-law _ (small (e .variant)) _ _ _ t short)
+  unchanged c n values seven (data-sum {input = input} {out = out} t over) q = data-unchanged input out _ q
+  unchanged c n values seven (update-sum over) q = record { engine = refl; buffer = refl }
+  unchanged c n values seven (output-sum f over) q = record { engine = refl; buffer = refl }
+  unchanged c n values eight (header-not-initialized {input = input} some p) q = header-unchanged input _ q
+  unchanged c n values eight (data-not-initialized {input = input} {out = out} p) q = data-unchanged input out _ q
+  unchanged c n values eight (end-not-initialized {out = out} p) q = end-unchanged out NotInitialized (rw p)
+  unchanged c n values nine (header-after-data {input = input} some p) q = header-unchanged input _ q
+  unchanged c n values ten (header-finalized {input = input} some p) q = header-unchanged input _ q
+  unchanged c n values ten (data-finalized {input = input} {out = out} p) q = data-unchanged input out _ q
+  unchanged c n values ten (end-finalized {out = out} p) q = end-unchanged out AlreadyFinalized (rw p)
+
+  -- The numbers 4, 5 and 7 to 10 change neither engine nor buffer.
+  pub unchanging-number-leaves : (c : Call) (n : ℕ) (values : List ℕ) → Unchanging n
+      → step e c .outcome ≡ no (n ∷ values) → Unchanged e c
+  unchanging-number-leaves c n values u q = unchanged c n values u (comes-back-refused e c (n ∷ values) q) q
+
+-- ---- A failed tag
+
+-- What a failed tag leaves at an end into `out`: the message is over, no tag can be read, and zeros stand where the end
+-- would have written.
+pub record Failed (e : SparkleEngine) (out : List ℕ) : Type 0 where
+  pub phase : e .current .phase ≡ Data Decrypt
+  pub whole : keyOf e ≤ hOf e
+  pub engine : step e (Call.end out) .engine
+      ≡ record {
+        variant = e .variant;
+        current = finalPoint Decrypt;
+        initial = e .initial;
+        pair = e .pair;
+        mac = noMac;
+        steps =
+            record {
+              current = (e .steps .current + cond (ltb 0 (hOf e - keyOf e)) (paramsOf (e .variant) .big) 0) % 2 ^ 64;
+              initial = e .steps .initial;
+            };
+      }
+  pub buffer : step e (Call.end out) .buffer ≡ zeros (hOf e - keyOf e) ++ drop (hOf e - keyOf e) out
+
+opening-end-out : (e : SparkleEngine) (n : ℕ) (out : List ℕ) (b : Bool) → e .current .phase ≡ Data Decrypt
+    → same (receivedTag e) (openTag e) ≡ b → finalOutBy (Ok n) e out ≡ written (openEndOutBy b e) out
+opening-end-out e n out b q h = rw (begun e Decrypt q, h, q)
+
+module _ (e : SparkleEngine) (array : length (e .current .buffer) ≡ 64) (q : e .current .phase ≡ Data Decrypt) where
+  length-held : length (heldBytes (paramsOf (e .variant)) (e .current)) ≡ hOf e
+  unfolding heldBytes
+  length-held = rw (length-take, q) (omega (arith, small (e .variant)))
+
+  length-openBlock : length (openBlock e) ≡ hOf e - keyOf e
+  unfolding openBlock
+  length-openBlock = rw (length-take, length-held) (omega arith)
+
+  module _ (out : List ℕ) (whole : keyOf e ≤ hOf e) (enough : hOf e - keyOf e ≤ length out)
+      (differs : receivedTag e ≡ openTag e → ⊥) where
+    failed : Failed e out
+    unfolding step doFinal doFinalOut ended addSteps lastSteps written zeros
+    failed =
+        let t : Taking Decrypt (e .current .phase) = rw q in-data in
+        let w = not-same _ _ differs in
+        let taken = open-taken _ (small (e .variant)) _ _ (length out) t whole enough in
+        record {
+          phase = q;
+          whole = whole;
+          engine = rw (taken, opening-end e _ false q w, length-openBlock);
+          buffer = rw (taken, opening-end-out e _ out false q w, length-openBlock, length-replicate);
+        }
+
+-- 6 comes from an end. The buffer of the engine is an array of 64 bytes.
+pub six-leaves : (e : SparkleEngine) (c : Call) (values : List ℕ) → length (e .current .buffer) ≡ 64
+    → step e c .outcome ≡ no (6 ∷ values) → (out : List ℕ) × (c ≡ Call.end out) × Failed e out
+six-leaves e c values array q = go c values (comes-back-refused e c (6 ∷ values) q)
+  where
+    go : (c : Call) (values : List ℕ) → Refused e c (6 ∷ values) → (out : List ℕ) × (c ≡ Call.end out) × Failed e out
+    go c values (tag-differs {out} p whole enough differs) = (out, refl, failed e array p out whole enough differs)

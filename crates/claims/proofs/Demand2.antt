@@ -1,0 +1,353 @@
+-- Demand 2 on the definitions of the calls, for every variant and every list of calls from a new engine, refused calls
+-- and queries included: the bytes, the verification, the readable tag, the held bytes and the steps are the
+-- specification's.
+use mathlib.Core.Path.{_≡_, refl, sym, ap, subst, _∙_}
+use mathlib.Core.Logic.{_↔_}
+use mathlib.Core.Bool.{Bool, true, false, cond}
+use mathlib.Core.List.{List, [], _∷_}
+use Prim.Native.Nat.{ℕ, _+_, _*_, _%_, _^_, _≤_, _<_}
+use native.Mathlib.Omega.{arith}
+use lib.ListN.{length}
+use Rattle.schwaemm.specs.Blocks.{ready, held}
+use Rattle.schwaemm.specs.Schwaemm.{Params, decrypt, seal, tag, body as bodyOf, verified, leading, stepsOf, steps}
+use Rattle.schwaemm.proofs.Cut.{length-held, rest-below}
+use Rattle.tc_sparkle_aead.specs.declared.variant.SparkleVariant.{SparkleVariant}
+use Rattle.tc_sparkle_aead.specs.declared.phase.Direction.{Direction}
+use Rattle.tc_sparkle_aead.specs.declared.phase.Direction.the-variants.{Encrypt, Decrypt}
+use Rattle.tc_sparkle_aead.specs.declared.phase.Phase.{Phase}
+use Rattle.tc_sparkle_aead.specs.declared.phase.Phase.the-variants.{Uninitialized, Init, Aad, Data, Final}
+use Rattle.tc_sparkle_aead.specs.declared.aead_error.AeadResult.{AeadResult}
+use Rattle.tc_sparkle_aead.specs.declared.aead_error.AeadResult.the-variants.{Ok, Err}
+use Rattle.tc_sparkle_aead.specs.declared.aead_init_error.AeadInitResult.{AeadInitResult}
+use Rattle.tc_sparkle_aead.specs.declared.aead_init_error.AeadInitResult.the-variants.{Ok as StartOk, Err as StartErr}
+use Rattle.tc_sparkle_aead.specs.declared.engine.Mac.{Mac}
+use Rattle.tc_sparkle_aead.specs.declared.engine.SparkleEngine.{SparkleEngine}
+use Rattle.tc_sparkle_aead.specs.Variant.{paramsOf}
+use Rattle.tc_sparkle_aead.specs.Checks.{opening, keep, aadCheck, headerCheck, dataCheck, endCheck, startCheck}
+use Rattle.tc_sparkle_aead.specs.Engine.{noMac, noMessage, noSteps, repeats, resetSteps, newEngine}
+use Rattle.tc_sparkle_aead.specs.Calls.{reset as resetEngine}
+use Rattle.tc_sparkle_aead.specs.Calls.{readable, macOf, stepsNow, finalPoint, refused, initBy, init, aadBy, processAadBytes, dataBy, processBytes, finalBy, doFinal}
+use Rattle.tc_sparkle_aead.proofs.VariantLaws.{sizes, small, keep-bound}
+use Rattle.claims.specs.Call.{Call, step, runFrom, run, Outcome, outcome, startOutcome}
+use Rattle.claims.specs.Reader.{Reader, heldOf, read, reader}
+use Rattle.claims.proofs.Points.{blockPoint}
+use Rattle.claims.proofs.Kept.{Standing, Sealed, openedMac, headCount, dataCount, headPoint, dataPoint, pointIn, initialCount, phase-agrees}
+use Rattle.claims.proofs.Follows.{kept, follows-run, aad-some}
+use Rattle.claims.proofs.Accepted.{released, Writes}
+use Rattle.claims.proofs.Whole.{Each}
+use Rattle.claims.proofs.Answers.{endOutcome, answerOf, answers}
+use Rattle.claims.proofs.Written.{messageOf, Ended, end-ended, SealEnd, OpenEnd, message-writes-next, seal-end, open-end}
+
+module _ (v : SparkleVariant) (calls : List Call) where
+  -- An accepted data call writes the specification's next bytes.
+  pub message-bytes : (input out : List ℕ) (n : ℕ) → step (run v calls) (Call.message input out) .outcome ≡ Outcome.ok n
+      → Writes (released (paramsOf v) (reader v calls))
+      (released (paramsOf v) (read (paramsOf v) (reader v calls) (Call.message input out) .reader)) out
+      (step (run v calls) (Call.message input out) .buffer) n
+  message-bytes = message-writes-next v (run v calls) (reader v calls) (follows-run v calls)
+
+  -- A sealing's end past its checks is accepted, and with its bytes the bytes are the specification's packet.
+  pub seal-end-bytes : (out : List ℕ) (n : ℕ) → opening (reader v calls .phase) ≡ false
+      → endCheck (paramsOf v) (reader v calls .phase) (heldOf (paramsOf v) (reader v calls)) (length out) ≡ Ok n
+      → SealEnd v (reader v calls) out n (step (run v calls) (Call.end out))
+  seal-end-bytes out n o passed = seal-end v (run v calls) (reader v calls) (follows-run v calls) out n passed o
+
+  -- An opening's end past its checks is accepted exactly when the packet is verified; then the bytes are what the packet
+  -- decrypts to, else what would have been written is zeros.
+  pub open-end-bytes : (out : List ℕ) (n : ℕ) → opening (reader v calls .phase) ≡ true
+      → endCheck (paramsOf v) (reader v calls .phase) (heldOf (paramsOf v) (reader v calls)) (length out) ≡ Ok n
+      → OpenEnd v (reader v calls) out n
+      (verified (paramsOf v) (reader v calls .key) (reader v calls .nonce) (reader v calls .header) (reader v calls .body))
+      (step (run v calls) (Call.end out))
+  open-end-bytes out n o passed = open-end v (run v calls) (reader v calls) (follows-run v calls) out n passed o
+
+exact-ok : (g : Bool) (n : ℕ) (o : Outcome) → o ≡ cond g (Outcome.ok n) (Outcome.no (6 ∷ []))
+    → (o ≡ Outcome.ok n) ↔ (g ≡ true)
+exact-ok true n o e = (λ _. refl, λ _. e)
+exact-ok false n o e =
+    (λ h. absurd (let z : _≡_ {A = ℕ} 0 1 = cc in omega arith), λ h. absurd (let z : _≡_ {A = ℕ} 0 1 = cc in omega arith))
+
+exact-no : (g : Bool) (n : ℕ) (o : Outcome) → o ≡ cond g (Outcome.ok n) (Outcome.no (6 ∷ []))
+    → (o ≡ Outcome.no (6 ∷ [])) ↔ (g ≡ false)
+exact-no false n o e = (λ _. refl, λ _. e)
+exact-no true n o e =
+    (λ h. absurd (let z : _≡_ {A = ℕ} 0 1 = cc in omega arith), λ h. absurd (let z : _≡_ {A = ℕ} 0 1 = cc in omega arith))
+
+-- An opening's end past its checks answers its count exactly when the packet is verified, and 6 exactly when it is not.
+pub record OpenEndExact (v : SparkleVariant) (r : Reader) (n : ℕ) (o : Outcome) : Type 0 where
+  pub accepted : (o ≡ Outcome.ok n) ↔ (verified (paramsOf v) (r .key) (r .nonce) (r .header) (r .body) ≡ true)
+  pub refused : (o ≡ Outcome.no (6 ∷ [])) ↔ (verified (paramsOf v) (r .key) (r .nonce) (r .header) (r .body) ≡ false)
+
+pub open-end-exact : (v : SparkleVariant) (calls : List Call) (out : List ℕ) (n : ℕ) → opening (reader v calls .phase) ≡ true
+    → endCheck (paramsOf v) (reader v calls .phase) (heldOf (paramsOf v) (reader v calls)) (length out) ≡ Ok n
+    → OpenEndExact v (reader v calls) n (step (run v calls) (Call.end out) .outcome)
+open-end-exact v calls out n o passed =
+    let r = reader v calls in
+    let w = open-end-bytes v calls out n o passed .outcome-is in
+    let g = verified (paramsOf v) (r .key) (r .nonce) (r .header) (r .body) in
+    record { accepted = exact-ok g n _ w; refused = exact-no g n _ w }
+
+-- ---- The tag
+
+-- After an end past its checks the readable tag is the specification's of the message, unless an opening's packet was not
+-- verified, where none can be read; and the steps are the specification's.
+pub end-tag-and-steps : (v : SparkleVariant) (calls : List Call) (out : List ℕ) (n : ℕ)
+    → endCheck (paramsOf v) (reader v calls .phase) (heldOf (paramsOf v) (reader v calls)) (length out) ≡ Ok n
+    → Ended v (reader v calls)
+    (cond (opening (reader v calls .phase))
+    (verified (paramsOf v) (reader v calls .key) (reader v calls .nonce) (reader v calls .header)
+    (reader v calls .body)) true)
+    (step (run v calls) (Call.end out) .engine)
+end-tag-and-steps v calls out n passed = end-ended v (run v calls) (reader v calls) (follows-run v calls) out n passed
+
+-- What an accepted end says: its checks passed, and an opening's packet is verified.
+end-passed : (k : AeadResult) (o g : Bool) (n : ℕ) → endOutcome k o g ≡ Outcome.ok n → (k ≡ Ok n) × (cond o g true ≡ true)
+end-passed (Err x) o g n e = absurd (let z : _≡_ {A = ℕ} 0 1 = cc in omega arith)
+end-passed (Ok m) false g n e = (let z : m ≡ n = cc in ap Ok z, refl)
+end-passed (Ok m) true true n e = (let z : m ≡ n = cc in ap Ok z, refl)
+end-passed (Ok m) true false n e = absurd (let z : _≡_ {A = ℕ} 0 1 = cc in omega arith)
+
+-- The bytes of a whole message: sealing, the packet; opening, what the packet decrypts to.
+unfoldable pub finishedBytes : Params → Reader → List ℕ
+finishedBytes p r =
+    cond (opening (r .phase)) (decrypt p (r .key) (r .nonce) (r .header) (bodyOf p (r .body)))
+    (seal p (r .key) (r .nonce) (r .header) (r .body))
+
+module _ (v : SparkleVariant) (calls : List Call) (out : List ℕ) (n : ℕ)
+    (accepted : step (run v calls) (Call.end out) .outcome ≡ Outcome.ok n) where
+  passed : (endCheck (paramsOf v) (reader v calls .phase) (heldOf (paramsOf v) (reader v calls)) (length out) ≡ Ok n)
+      × (cond (opening (reader v calls .phase))
+      (verified (paramsOf v) (reader v calls .key) (reader v calls .nonce) (reader v calls .header)
+      (reader v calls .body)) true ≡ true)
+  unfolding answerOf
+  passed = end-passed _ _ _ n (sym (answers v calls (Call.end out) tt) ∙ accepted)
+
+  -- An accepted end completes the bytes.
+  pub end-bytes : Writes (released (paramsOf v) (reader v calls)) (finishedBytes (paramsOf v) (reader v calls)) out
+      (step (run v calls) (Call.end out) .buffer) n
+  unfolding finishedBytes
+  end-bytes = by (opening (reader v calls .phase)) refl
+    where
+      by : (o : Bool) → opening (reader v calls .phase) ≡ o
+          → Writes (released (paramsOf v) (reader v calls)) (finishedBytes (paramsOf v) (reader v calls)) out
+          (step (run v calls) (Call.end out) .buffer) n
+      by true o = rw o (open-end-bytes v calls out n o (passed .0) .good-bytes (rw o at (passed .1)))
+      by false o = rw o (seal-end-bytes v calls out n o (passed .0) .bytes-are)
+
+  -- After an accepted end the readable tag is the specification's of the message, and the steps are the specification's.
+  pub end-accepted : Ended v (reader v calls) true (step (run v calls) (Call.end out) .engine)
+  end-accepted =
+      subst (λ (g : Bool). Ended v (reader v calls) g (step (run v calls) (Call.end out) .engine)) (passed .1)
+      (end-tag-and-steps v calls out n (passed .0))
+
+no-tag : (mac : Mac) → mac ≡ noMac → mac .readable ≡ true → ⊥
+unfolding noMac
+no-tag mac e h =
+    let b : _≡_ {A = Bool} false true =
+    sym (ap (λ (m : Mac). m .readable) e) ∙ h in let z : _≡_ {A = ℕ} 0 1 = cc in omega arith
+
+opened-tag : (g : Bool) (t : List ℕ) (mac : Mac) → mac ≡ cond g (readable t) noMac → mac .readable ≡ true → mac ≡ readable t
+opened-tag true t mac e h = e
+opened-tag false t mac e h = absurd (no-tag mac e h)
+
+sealed-tag : (p : Params) (key nonce initial header body : List ℕ) (mac : Mac) (c : ℕ)
+    → Sealed p key nonce initial header body mac c
+    → mac .readable ≡ true → mac ≡ readable (tag p key nonce header body)
+sealed-tag p key nonce initial header body mac c (Sealed.stopped e k) h = absurd (no-tag mac e h)
+sealed-tag p key nonce initial header body mac c (Sealed.finished e k) h = e
+
+mac-in : (p : Params) (phase : Phase) (loaded : Bool) (key nonce initial header body : List ℕ) (mac : Mac) (c : ℕ)
+    → Standing p phase loaded key nonce initial header body mac c → mac .readable ≡ true
+    → mac ≡ readable (tag p key nonce header (messageOf p (kept loaded key nonce initial phase header body)))
+unfolding messageOf openedMac
+mac-in p Uninitialized loaded key nonce initial header body mac c st h = absurd (no-tag mac (st .0) h)
+mac-in p (Init d) loaded key nonce initial header body mac c st h = absurd (no-tag mac (st .1) h)
+mac-in p (Aad d) loaded key nonce initial header body mac c st h = absurd (no-tag mac (st .1) h)
+mac-in p (Data d) loaded key nonce initial header body mac c st h = absurd (no-tag mac (st .1) h)
+mac-in p (Final Encrypt) loaded key nonce initial header body mac c st h =
+    sealed-tag p key nonce initial header body mac c (st .1) h
+mac-in p (Final Decrypt) loaded key nonce initial header body mac c st h =
+    opened-tag (verified p key nonce header body) _ mac (st .1) h
+
+shown-mac : (e : SparkleEngine) → macOf e .readable ≡ true → (e .mac .readable ≡ true) × (macOf e ≡ e .mac)
+unfolding macOf noMac
+shown-mac e h = by (e .mac .readable) h
+  where
+    by : (b : Bool) → cond b (e .mac) noMac .readable ≡ true → (b ≡ true) × (cond b (e .mac) noMac ≡ e .mac)
+    by true g = (refl, refl)
+    by false g = (g, absurd (let z : _≡_ {A = ℕ} 0 1 = cc in omega arith))
+
+-- Whenever a tag can be read it is the specification's, of the message that the reader keeps.
+pub mac-bytes : (v : SparkleVariant) (calls : List Call) → macOf (run v calls) .readable ≡ true
+    → macOf (run v calls)
+    ≡ readable (tag (paramsOf v) (reader v calls .key) (reader v calls .nonce) (reader v calls .header)
+    (messageOf (paramsOf v) (reader v calls)))
+mac-bytes v calls h =
+    let r = reader v calls in
+    let w = follows-run v calls in
+    let e = run v calls in
+    let s = shown-mac e h in
+    let is : e .mac ≡ w .mac = ap (λ (x : SparkleEngine). x .mac) (w .same-engine) in
+    s .1 ∙ is
+    ∙ mac-in (paramsOf v) (r .phase) (r .loaded) (r .key) (r .nonce) (r .initial) (r .header) (r .body) (w .mac) (w .count)
+    (w .standing)
+    (sym (ap (λ (m : Mac). m .readable) is) ∙ s .0)
+
+-- ---- What is held
+
+module _ (p : Params) (pos : 0 < p .rate) (key nonce header body : List ℕ) where
+  held-phase : (phase : Phase) → pointIn p phase key nonce header body .held ≤ keep p phase + p .rate
+  unfolding headPoint dataPoint blockPoint noMessage finalPoint
+  held-phase Uninitialized = omega arith
+  held-phase (Init d) = omega (arith, length-held (p .rate) 0 header, rest-below (p .rate) 0 pos (length header))
+  held-phase (Aad d) = omega (arith, length-held (p .rate) 0 header, rest-below (p .rate) 0 pos (length header))
+  held-phase (Data d) =
+      omega (arith, length-held (p .rate) (keep p (Data d)) body, rest-below (p .rate) (keep p (Data d)) pos (length body))
+  held-phase (Final d) = omega arith
+
+-- At most a block is held, on an opening a block and a tag; so at most 64 bytes.
+pub held-at-most : (v : SparkleVariant) (calls : List Call)
+    → run v calls .current .held ≤ keep (paramsOf v) (reader v calls .phase) + paramsOf v .rate
+held-at-most v calls =
+    let r = reader v calls in
+    let w = follows-run v calls in
+    subst (λ (e : SparkleEngine). e .current .held ≤ keep (paramsOf v) (r .phase) + paramsOf v .rate) (sym (w .same-engine))
+    (held-phase (paramsOf v) (sizes v .rate-positive) (r .key) (r .nonce) (r .header) (r .body) (r .phase))
+
+pub held-at-most-64 : (v : SparkleVariant) (calls : List Call) → run v calls .current .held ≤ 64
+held-at-most-64 v calls =
+    omega (arith, held-at-most v calls, keep-bound (paramsOf v) (reader v calls .phase), small v .rate, small v .key)
+
+-- The engine's phase is the reader's.
+pub phase-is : (v : SparkleVariant) (calls : List Call) → run v calls .current .phase ≡ reader v calls .phase
+phase-is v calls =
+    let r = reader v calls in
+    ap (λ (e : SparkleEngine). e .current .phase) (follows-run v calls .same-engine)
+    ∙ phase-agrees (paramsOf v) (r .key) (r .nonce) (r .header) (r .body) (r .phase)
+
+-- ---- The steps
+
+-- The specification's steps of what has run: with the start, the header's blocks but its last; in the data the whole
+-- header and the blocks that went.
+unfoldable pub stepsBefore : Params → Phase → (header body : List ℕ) → ℕ
+stepsBefore p Uninitialized header body = 0
+stepsBefore p (Init d) header body = p .big + leading p (length header) * p .slim
+stepsBefore p (Aad d) header body = p .big + leading p (length header) * p .slim
+stepsBefore p (Data d) header body =
+    p .big + stepsOf p (length header) + ready (p .rate) (keep p (Data d)) (length body) * p .slim
+stepsBefore p (Final d) header body = 0
+
+-- Not in Final.
+abbrev pub Before : Phase → Type 0
+Before Uninitialized = Unit {0}
+Before (Init d) = Unit {0}
+Before (Aad d) = Unit {0}
+Before (Data d) = Unit {0}
+Before (Final d) = ⊥
+
+steps-in : (p : Params) (phase : Phase) (loaded : Bool) (key nonce initial header body : List ℕ) (mac : Mac) (c : ℕ)
+    → Before phase
+    → Standing p phase loaded key nonce initial header body mac c → c ≡ stepsBefore p phase header body % 2 ^ 64
+unfolding stepsBefore headCount dataCount
+steps-in p Uninitialized loaded key nonce initial header body mac c b st = st .1
+steps-in p (Init d) loaded key nonce initial header body mac c b st = st .2
+steps-in p (Aad d) loaded key nonce initial header body mac c b st = st .2
+steps-in p (Data d) loaded key nonce initial header body mac c b st = st .2
+steps-in p (Final d) loaded key nonce initial header body mac c b st = absurd b
+
+-- Outside Final the steps are those of what has run; so 0 in Uninitialized, after a refused start and for a new engine.
+pub steps-before-end : (v : SparkleVariant) (calls : List Call) → Before (reader v calls .phase)
+    → stepsNow (run v calls)
+    ≡ stepsBefore (paramsOf v) (reader v calls .phase) (reader v calls .header) (reader v calls .body) % 2 ^ 64
+unfolding stepsNow
+steps-before-end v calls b =
+    let r = reader v calls in
+    let w = follows-run v calls in
+    ap (λ (e : SparkleEngine). e .steps .current) (w .same-engine)
+    ∙ steps-in (paramsOf v) (r .phase) (r .loaded) (r .key) (r .nonce) (r .initial) (r .header) (r .body) (w .mac)
+    (w .count) b (w .standing)
+
+-- The count after init, to which every reset returns; 0 in Uninitialized.
+unfoldable pub stepsAfterInit : Params → Phase → (initial : List ℕ) → ℕ
+stepsAfterInit p Uninitialized initial = 0
+stepsAfterInit p (Init d) initial = p .big + leading p (length initial) * p .slim
+stepsAfterInit p (Aad d) initial = p .big + leading p (length initial) * p .slim
+stepsAfterInit p (Data d) initial = p .big + leading p (length initial) * p .slim
+stepsAfterInit p (Final d) initial = p .big + leading p (length initial) * p .slim
+
+initial-steps : (p : Params) (phase : Phase) (initial : List ℕ) → initialCount p phase initial
+    ≡ stepsAfterInit p phase initial % 2 ^ 64
+unfolding headCount stepsAfterInit
+initial-steps p Uninitialized initial = refl
+initial-steps p (Init d) initial = refl
+initial-steps p (Aad d) initial = refl
+initial-steps p (Data d) initial = refl
+initial-steps p (Final d) initial = refl
+
+pub steps-reset : (v : SparkleVariant) (calls : List Call)
+    → stepsNow (step (run v calls) Call.reset .engine)
+    ≡ stepsAfterInit (paramsOf v) (reader v calls .phase) (reader v calls .initial) % 2 ^ 64
+unfolding stepsNow step resetEngine resetSteps
+steps-reset v calls =
+    ap (λ (e : SparkleEngine). e .steps .initial) (follows-run v calls .same-engine)
+    ∙ initial-steps (paramsOf v) (reader v calls .phase) (reader v calls .initial)
+
+-- A new engine and a refused start give 0.
+pub steps-new : (v : SparkleVariant) → stepsNow (newEngine v) ≡ 0
+unfolding stepsNow newEngine noSteps
+steps-new v = refl
+
+steps-start : (k : AeadInitResult) (e : SparkleEngine) (d : Direction) (key nonce header values : List ℕ)
+    → startOutcome (initBy k e d key nonce header .answer) ≡ Outcome.no values
+    → stepsNow (initBy k e d key nonce header .engine) ≡ 0
+unfolding stepsNow refused noSteps
+steps-start StartOk e d key nonce header values o = absurd (let z : _≡_ {A = ℕ} 0 1 = cc in omega arith)
+steps-start (StartErr x) e d key nonce header values o = refl
+
+pub steps-refused-start : (e : SparkleEngine) (d : Direction) (key nonce : List ℕ) (size : ℕ) (header values : List ℕ)
+    → step e (Call.start d key nonce size header) .outcome ≡ Outcome.no values
+    → stepsNow (step e (Call.start d key nonce size header) .engine) ≡ 0
+unfolding step init
+steps-refused-start e d key nonce size header values o =
+    let p = paramsOf (e .variant) in
+    steps-start (startCheck p d (length key) (length nonce) size
+    (repeats p (e .pair) key nonce)) e d key nonce header values o
+
+-- ---- Until the next init or reset
+
+-- Neither init nor reset.
+abbrev pub Keeps : Call → Type 0
+Keeps (Call.start d key nonce size h) = ⊥
+Keeps (Call.header input) = Unit {0}
+Keeps (Call.message input out) = Unit {0}
+Keeps (Call.end out) = Unit {0}
+Keeps Call.reset = ⊥
+Keeps Call.tag = Unit {0}
+Keeps (Call.update n) = Unit {0}
+Keeps (Call.output n) = Unit {0}
+
+-- In Final a call that is neither init nor reset changes nothing, so the tag stays readable.
+pub final-keeps : (e : SparkleEngine) (d : Direction) → e .current .phase ≡ Final d → (c : Call) → Keeps c → step e c .engine
+    ≡ e
+unfolding step processAadBytes processBytes doFinal dataCheck endCheck
+final-keeps e d is (Call.start x key nonce size h) k = absurd k
+final-keeps e d is (Call.header []) k = unfold aadCheck in refl
+final-keeps e d is (Call.header (x ∷ input)) k =
+    ap (λ (y : AeadResult). aadBy y e (x ∷ input) .engine) (aad-some (e .current .phase) (length input) ∙ ap headerCheck is)
+final-keeps e d is (Call.message input out) k =
+    ap (λ (x : Phase). dataBy (dataCheck (paramsOf (e .variant)) x (e .current .held) (length input) (length out)) e input .engine) is
+final-keeps e d is (Call.end out) k =
+    ap (λ (x : Phase). finalBy (endCheck (paramsOf (e .variant)) x (e .current .held) (length out)) e .engine) is
+final-keeps e d is Call.reset k = absurd k
+final-keeps e d is Call.tag k = refl
+final-keeps e d is (Call.update n) k = refl
+final-keeps e d is (Call.output n) k = refl
+
+pub final-keeps-all : (e : SparkleEngine) (d : Direction) → e .current .phase ≡ Final d → (calls : List Call)
+    → Each Keeps calls
+    → runFrom e calls ≡ e
+unfolding runFrom
+final-keeps-all e d is [] k = refl
+final-keeps-all e d is (c ∷ calls) k =
+    let q = final-keeps e d is c (k .0) in
+    final-keeps-all (step e c .engine) d (ap (λ (x : SparkleEngine). x .current .phase) q ∙ is) calls (k .1) ∙ q

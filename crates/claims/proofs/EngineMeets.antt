@@ -1,0 +1,139 @@
+-- The invariant `Follows` gives what `Linked` states; with it demand 3 and the answers of demand 2 hold of the engine.
+use mathlib.Core.Path.{_≡_, refl, sym, ap, subst, _∙_}
+use mathlib.Core.Logic.{_↔_}
+use mathlib.Core.Bool.{Bool, true}
+use mathlib.Core.List.{List, _∷_}
+use Prim.Native.Nat.{ℕ, _-_, _*_, _≤_}
+use native.Mathlib.Omega.{arith}
+use lib.ListN.{length, take}
+use Rattle.schwaemm.specs.Bytes.{same}
+use Rattle.schwaemm.specs.Blocks.{ready, held}
+use Rattle.schwaemm.specs.Schwaemm.{Params, verified}
+use Rattle.tc_sparkle_aead.specs.declared.variant.SparkleVariant.{SparkleVariant}
+use Rattle.tc_sparkle_aead.specs.declared.phase.Direction.the-variants.{Encrypt, Decrypt}
+use Rattle.tc_sparkle_aead.specs.declared.phase.Phase.{Phase}
+use Rattle.tc_sparkle_aead.specs.declared.phase.Phase.the-variants.{Uninitialized, Init, Aad, Data, Final}
+use Rattle.tc_sparkle_aead.specs.declared.aead_error.AeadResult.the-variants.{Ok}
+use Rattle.tc_sparkle_aead.specs.declared.engine.Mac.{Mac}
+use Rattle.tc_sparkle_aead.specs.declared.engine.SparkleEngine.{SparkleEngine}
+use Rattle.tc_sparkle_aead.specs.Variant.{paramsOf}
+use Rattle.tc_sparkle_aead.specs.Checks.{opening, keep, heldIn, endCheck}
+use Rattle.tc_sparkle_aead.specs.Engine.{zeros, noMessage}
+use Rattle.tc_sparkle_aead.specs.Calls.{beginData, receivedTag, openTag, finalPoint}
+use Rattle.tc_sparkle_aead.proofs.VariantLaws.{sizes, small}
+use Rattle.claims.specs.Call.{Call, Alike, step, sheet, run}
+use Rattle.claims.specs.Call.Outcome.{no}
+use Rattle.claims.specs.Reader.{Reader, heldOf, read, reader, verdicts}
+use Rattle.claims.proofs.Kept.{Fits, Follows, Standing, engineOf, pointIn, follows-new, headPoint, dataPoint, repeats-agree, held-agrees, phase-agrees, end-enough}
+use Rattle.claims.proofs.Follows.{kept, Takes, takes-data, follows-step, follows-run, begun-data, takes-loaded, opening-verified}
+use Rattle.claims.proofs.Points.{blockPoint}
+use Rattle.claims.proofs.PublicState.{length-inArray}
+use Rattle.claims.proofs.Demand1.{Failed, six-leaves}
+use Rattle.claims.proofs.Demand3.{Linked, sheets-and-verdicts, first-sheets-and-verdicts}
+use Rattle.claims.proofs.Machine.{engine, after, expected, Demand3}
+use Rattle.claims.proofs.Meets.{engine-answers, engine-meets-3}
+
+-- the held bytes count in Data, where point and reader agree
+held-linked : (p : Params) (key nonce header body : List ℕ) (phase : Phase)
+    → heldIn p phase (pointIn p phase key nonce header body .held)
+    ≡ heldIn p phase (length body - ready (p .rate) (keep p phase) (length body) * p .rate)
+held-linked p key nonce header body Uninitialized = refl
+held-linked p key nonce header body (Init d) = refl
+held-linked p key nonce header body (Aad d) = refl
+held-linked p key nonce header body (Data d) = ap (heldIn p (Data d)) (held-agrees p key nonce header body d)
+held-linked p key nonce header body (Final d) = refl
+
+module _ (v : SparkleVariant) (loaded : Bool) (key nonce initial header body : List ℕ) (mac : Mac) (n : ℕ)
+    (f : loaded ≡ true → Fits (paramsOf v) key nonce) where
+  -- an opening in a phase that takes an end, with a tag's bytes
+  tag-takes : {phase : Phase} → Takes Decrypt phase → Standing (paramsOf v) phase loaded key nonce initial header body mac n
+      → paramsOf v .key ≤ length body
+      → same (receivedTag (beginData (engineOf v (kept loaded key nonce initial phase header body) mac n)))
+      (openTag (beginData (engineOf v (kept loaded key nonce initial phase header body) mac n)))
+      ≡ verified (paramsOf v) key nonce header body
+  tag-takes {phase} t st enough =
+      ap (λ (e : SparkleEngine). same (receivedTag e) (openTag e)) (begun-data v loaded key nonce initial f t header body mac n st)
+      ∙ opening-verified v loaded key nonce initial f (takes-loaded v loaded key nonce initial f t header body mac n st) header body enough
+
+  tag-linked : (phase : Phase) → Standing (paramsOf v) phase loaded key nonce initial header body mac n → (available k : ℕ)
+      → endCheck (paramsOf v) phase (heldOf (paramsOf v) (kept loaded key nonce initial phase header body)) available ≡ Ok k
+      → opening phase ≡ true
+      → same (receivedTag (beginData (engineOf v (kept loaded key nonce initial phase header body) mac n)))
+      (openTag (beginData (engineOf v (kept loaded key nonce initial phase header body) mac n)))
+      ≡ verified (paramsOf v) key nonce header body
+  unfolding endCheck
+  tag-linked Uninitialized st available k passed opens = absurd (let z : _≡_ {A = ℕ} 0 1 = cc in omega arith)
+  tag-linked (Init Encrypt) st available k passed opens = absurd (let z : _≡_ {A = ℕ} 0 1 = cc in omega arith)
+  tag-linked (Aad Encrypt) st available k passed opens = absurd (let z : _≡_ {A = ℕ} 0 1 = cc in omega arith)
+  tag-linked (Data Encrypt) st available k passed opens = absurd (let z : _≡_ {A = ℕ} 0 1 = cc in omega arith)
+  tag-linked (Final d) st available k passed opens = absurd (let z : _≡_ {A = ℕ} 0 1 = cc in omega arith)
+  tag-linked (Init Decrypt) st available k passed opens =
+      let h = end-enough (paramsOf v) (Init Decrypt) _ available k refl passed in
+      let positive = sizes v .key-positive in
+      absurd (omega arith)
+  tag-linked (Aad Decrypt) st available k passed opens =
+      let h = end-enough (paramsOf v) (Aad Decrypt) _ available k refl passed in
+      let positive = sizes v .key-positive in
+      absurd (omega arith)
+  tag-linked (Data Decrypt) st available k passed opens =
+      let h = end-enough (paramsOf v) (Data Decrypt)
+      (heldOf (paramsOf v) (kept loaded key nonce initial (Data Decrypt) header body)) available k refl passed in
+      tag-takes takes-data st (omega arith)
+
+module _ (v : SparkleVariant) (r : Reader) (mac : Mac) (n : ℕ)
+    (f : r .loaded ≡ true → Fits (paramsOf v) (r .key) (r .nonce))
+    (st : Standing (paramsOf v) (r .phase) (r .loaded) (r .key) (r .nonce) (r .initial) (r .header) (r .body) mac n) where
+  engine-linked : Linked v (engineOf v r mac n) r
+  engine-linked =
+      record {
+        variant = refl;
+        phase = phase-agrees (paramsOf v) (r .key) (r .nonce) (r .header) (r .body) (r .phase);
+        held = held-linked (paramsOf v) (r .key) (r .nonce) (r .header) (r .body) (r .phase);
+        pair = λ key nonce k m. repeats-agree (paramsOf v) (small v) (r .loaded) (r .key) (r .nonce) f key nonce;
+        tag = tag-linked v (r .loaded) (r .key) (r .nonce) (r .initial) (r .header) (r .body) mac n f (r .phase) st;
+      }
+
+pub linked : (v : SparkleVariant) (e : SparkleEngine) (r : Reader) → Follows v e r → Linked v e r
+linked v e r w =
+    subst (λ (x : SparkleEngine). Linked v x r) (sym (w .same-engine)) (engine-linked v r (w .mac) (w .count) (w .fits) (w .standing))
+
+pub keeps : (v : SparkleVariant) (e : SparkleEngine) (r : Reader) (c : Call) → Follows v e r
+    → Follows v (step e c .engine) (read (paramsOf v) r c .reader)
+keeps v e r c w = follows-step v e r w c
+
+-- Demand 3: two lists alike have equal sheets exactly where they have equal verdicts, and so their first k calls.
+pub demand-3 : (v : SparkleVariant) (xs ys : List Call) → Alike xs ys → (sheet v xs ≡ sheet v ys) ↔ (verdicts v xs ≡ verdicts v ys)
+demand-3 v = sheets-and-verdicts v (Follows v) (linked v) (follows-new v) (keeps v)
+
+pub demand-3-call-by-call : (v : SparkleVariant) (k : ℕ) (xs ys : List Call) → Alike xs ys
+    → (take k (sheet v xs) ≡ take k (sheet v ys)) ↔ (take k (verdicts v xs) ≡ take k (verdicts v ys))
+demand-3-call-by-call v = first-sheets-and-verdicts v (Follows v) (linked v) (follows-new v) (keeps v)
+
+pub engine-demand-3 : Demand3 engine
+engine-demand-3 = engine-meets-3 Follows linked follows-new keeps
+
+-- Demand 2, the answers: every call but mac, after every list of calls, is answered as the tables say.
+pub engine-answered : (v : SparkleVariant) (before : List Call) (c : Call) → (c ≡ Call.tag → ⊥)
+    → engine .step (after engine (engine .new v) before) c .line .outcome ≡ expected (paramsOf v) (reader v before) c
+engine-answered = engine-answers Follows linked follows-new keeps
+
+-- Demand 1, the failed tag: the engine's buffer is an array of 64 bytes, so 6 leaves what `Failed` says after every list
+-- of calls.
+point-array : (p : Params) (phase : Phase) (key nonce header body : List ℕ)
+    → length (pointIn p phase key nonce header body .buffer) ≡ 64
+unfolding noMessage finalPoint headPoint dataPoint blockPoint zeros
+point-array p Uninitialized key nonce header body = refl
+point-array p (Init d) key nonce header body = length-inArray 64 (held (p .rate) 0 header)
+point-array p (Aad d) key nonce header body = length-inArray 64 (held (p .rate) 0 header)
+point-array p (Data d) key nonce header body = length-inArray 64 (held (p .rate) (keep p (Data d)) body)
+point-array p (Final d) key nonce header body = refl
+
+pub run-array : (v : SparkleVariant) (calls : List Call) → length (run v calls .current .buffer) ≡ 64
+run-array v calls =
+    let r = reader v calls in
+    ap (λ (e : SparkleEngine). length (e .current .buffer)) (follows-run v calls .same-engine)
+    ∙ point-array (paramsOf v) (r .phase) (r .key) (r .nonce) (r .header) (r .body)
+
+pub run-six-leaves : (v : SparkleVariant) (calls : List Call) (c : Call) (values : List ℕ)
+    → step (run v calls) c .outcome ≡ no (6 ∷ values) → (out : List ℕ) × (c ≡ Call.end out) × Failed (run v calls) out
+run-six-leaves v calls c values q = six-leaves (run v calls) c values (run-array v calls) q

@@ -1,0 +1,138 @@
+-- Demand 2, the bytes: a message without refusal, however its data is cut, is written as the specification gives it. With
+-- the answers and the steps the engine meets demand 2.
+use mathlib.Core.Path.{_≡_, refl, sym, ap, ap₂, _∙_}
+use mathlib.Core.List.{List, [], _∷_, _++_, append-assoc, append-nil}
+use Prim.Native.Nat.{ℕ}
+use native.Mathlib.Omega.{arith}
+use lib.ListN.{length}
+use Rattle.schwaemm.specs.Schwaemm.{seal, decrypt, body}
+use Rattle.tc_sparkle_aead.specs.declared.variant.SparkleVariant.{SparkleVariant}
+use Rattle.tc_sparkle_aead.specs.declared.phase.Direction.{Direction}
+use Rattle.tc_sparkle_aead.specs.declared.phase.Direction.the-variants.{Encrypt, Decrypt}
+use Rattle.tc_sparkle_aead.specs.declared.aead_error.AeadResult.{AeadResult}
+use Rattle.tc_sparkle_aead.specs.declared.engine.SparkleEngine.{SparkleEngine}
+use Rattle.tc_sparkle_aead.specs.Variant.{paramsOf}
+use Rattle.tc_sparkle_aead.specs.Checks.{dataCheck}
+use Rattle.tc_sparkle_aead.specs.Engine.{newEngine}
+use Rattle.claims.specs.Call.{Call, Left, Outcome, outcome, step, line, run, runFrom}
+use Rattle.claims.specs.Call.Outcome.{ok, no}
+use Rattle.claims.specs.Reader.{Reader, heldOf, readMessage, read, readFrom}
+use Rattle.claims.proofs.Kept.{Follows}
+use Rattle.claims.proofs.Follows.{follows-step}
+use Rattle.claims.proofs.Written.{outcome-ok}
+use Rattle.claims.proofs.Whole.{outputs, Betweens, begunEngine, startedReader, begun-follows, sealed-taken, opened-taken}
+use Rattle.claims.proofs.Whole.{wrote as wroteBytes}
+use Rattle.claims.proofs.Machine.{engine, linesOf, sheetOf, wrote, bytesOf, expected, Piece, dataCalls, messageOf, messageCalls, AllOk, Demand2}
+use Rattle.claims.proofs.Machine.AllOk.{none, more}
+use Rattle.claims.proofs.Meets.{answered}
+use Rattle.claims.proofs.EngineMeets.{linked, engine-answered}
+use Rattle.claims.proofs.EngineCounts.{engine-counted}
+
+wrote-bytes : (o : Outcome) (l : Left) → l .outcome ≡ o → wrote o (l .buffer) ≡ wroteBytes l
+unfolding wroteBytes
+wrote-bytes (ok n) l q = rw q
+wrote-bytes (no r) l q = rw q
+
+bytes-outputs : (e : SparkleEngine) (calls : List Call) → bytesOf engine e calls ≡ outputs e calls
+unfolding outputs line
+bytes-outputs e [] = refl
+bytes-outputs e (c ∷ calls) =
+    ap₂ (λ (a b : List ℕ). a ++ b) (wrote-bytes (step e c .outcome) (step e c) refl) (bytes-outputs (step e c .engine) calls)
+
+-- the data calls alone
+abbrev messages : List Piece → List Call
+messages [] = []
+messages (x ∷ pieces) = Call.message (x .input) (x .out) ∷ messages pieces
+
+data-calls : (pieces : List Piece) (out : List ℕ) → dataCalls pieces out ≡ messages pieces ++ (Call.end out ∷ [])
+data-calls [] out = refl
+data-calls (x ∷ pieces) out =
+    ap (λ (l : List Call). Call.message (x .input) (x .out) ∷ l) (data-calls pieces out)
+
+messages-between : (e : SparkleEngine) (pieces : List Piece) → Betweens e (messages pieces)
+messages-between e [] = tt
+messages-between e (x ∷ pieces) = (tt, messages-between (step e (Call.message (x .input) (x .out)) .engine) pieces)
+
+-- An accepted data call appends its input.
+message-read : (v : SparkleVariant) (e : SparkleEngine) (r : Reader) → Follows v e r → (input out : List ℕ) (n : ℕ)
+    → step e (Call.message input out) .outcome ≡ ok n
+    → (read (paramsOf v) r (Call.message input out) .reader .header ≡ r .header)
+    × (read (paramsOf v) r (Call.message input out) .reader .body ≡ r .body ++ input)
+unfolding read expected
+message-read v e r w input out n q =
+    let p = paramsOf v in
+    let a : outcome (dataCheck p (r .phase) (heldOf p r) (length input) (length out)) ≡ ok n =
+    sym (answered v e r (linked v e r w) (Call.message input out) (λ h. let z : _≡_ {A = ℕ} 0 1 = cc in omega arith)) ∙ q
+    in
+    let c = outcome-ok (dataCheck p (r .phase) (heldOf p r) (length input) (length out)) n a in
+    (ap (λ (k : AeadResult). readMessage k r input .reader .header) c, ap (λ (k : AeadResult). readMessage k r input .reader .body) c)
+
+-- what data calls and an end without refusal leave
+record Gone (v : SparkleVariant) (pieces : List Piece) (out : List ℕ) (e : SparkleEngine) (r : Reader) : Type 0 where
+  count : ℕ
+  end-ok : step (runFrom e (messages pieces)) (Call.end out) .outcome ≡ ok count
+  header-is : readFrom (paramsOf v) r (messages pieces) .header ≡ r .header
+  body-is : readFrom (paramsOf v) r (messages pieces) .body ≡ r .body ++ messageOf pieces
+
+gone : (v : SparkleVariant) (pieces : List Piece) (out : List ℕ) (e : SparkleEngine) (r : Reader) → Follows v e r
+    → AllOk (linesOf engine e (dataCalls pieces out)) → Gone v pieces out e r
+unfolding runFrom readFrom line
+gone v [] out e r w (more n q none) =
+    record { count = n; end-ok = q; header-is = refl; body-is = sym (append-nil (r .body)) }
+gone v (x ∷ pieces) out e r w (more n q all) =
+    let p = paramsOf v in
+    let c = Call.message (x .input) (x .out) in
+    let g = gone v pieces out (step e c .engine) (read p r c .reader) (follows-step v e r w c) all in
+    let m = message-read v e r w (x .input) (x .out) n q in
+    record {
+      count = g .count;
+      end-ok = g .end-ok;
+      header-is = g .header-is ∙ m .0;
+      body-is =
+          g .body-is ∙ ap (λ (l : List ℕ). l ++ messageOf pieces) (m .1) ∙ append-assoc (r .body) (x .input) (messageOf pieces);
+    }
+
+-- a message without refusal, by its start
+module _ (v : SparkleVariant) (d : Direction) (key nonce header : List ℕ) (size : ℕ) (pieces : List Piece) (out : List ℕ)
+    (k : ℕ) (taken : step (run v []) (Call.start d key nonce size header) .outcome ≡ ok k)
+    (all : AllOk (linesOf engine (begunEngine v [] d key nonce size header) (dataCalls pieces out))) where
+  left : Gone v pieces out (begunEngine v [] d key nonce size header) (startedReader d key nonce header)
+  left =
+      gone v pieces out (begunEngine v [] d key nonce size header) (startedReader d key nonce header)
+      (begun-follows v [] d key nonce size header (messages pieces) out k taken
+      (messages-between (begunEngine v [] d key nonce size header) pieces)) all
+
+  written-outputs : bytesOf engine (newEngine v) (messageCalls d key nonce header size pieces out)
+      ≡ outputs (run v []) (Call.start d key nonce size header ∷ (messages pieces ++ (Call.end out ∷ [])))
+  unfolding run runFrom
+  written-outputs =
+      bytes-outputs (newEngine v) (messageCalls d key nonce header size pieces out)
+      ∙ ap (λ (l : List Call). outputs (newEngine v) (Call.start d key nonce size header ∷ l)) (data-calls pieces out)
+
+module _ (v : SparkleVariant) (key nonce header : List ℕ) (size : ℕ) (pieces : List Piece) (out : List ℕ) where
+  pub engine-seals : AllOk (sheetOf engine v (messageCalls Encrypt key nonce header size pieces out))
+      → bytesOf engine (engine .new v) (messageCalls Encrypt key nonce header size pieces out)
+      ≡ seal (paramsOf v) key nonce header (messageOf pieces)
+  unfolding run runFrom line
+  engine-seals (more k q all) =
+      let g = left v Encrypt key nonce header size pieces out k q all in
+      written-outputs v Encrypt key nonce header size pieces out k q all
+      ∙ sealed-taken v [] key nonce size header (messages pieces) out k (g .count) q
+      (messages-between (begunEngine v [] Encrypt key nonce size header) pieces) (g .end-ok)
+      ∙ ap₂ (λ (h m : List ℕ). seal (paramsOf v) key nonce h m) (g .header-is) (g .body-is)
+
+  pub engine-opens : AllOk (sheetOf engine v (messageCalls Decrypt key nonce header size pieces out))
+      → bytesOf engine (engine .new v) (messageCalls Decrypt key nonce header size pieces out)
+      ≡ decrypt (paramsOf v) key nonce header (body (paramsOf v) (messageOf pieces))
+  unfolding run runFrom line
+  engine-opens (more k q all) =
+      let g = left v Decrypt key nonce header size pieces out k q all in
+      written-outputs v Decrypt key nonce header size pieces out k q all
+      ∙ opened-taken v [] key nonce size header (messages pieces) out k (g .count) q
+      (messages-between (begunEngine v [] Decrypt key nonce size header) pieces) (g .end-ok) .bytes-are
+      ∙ ap₂ (λ (h m : List ℕ). decrypt (paramsOf v) key nonce h (body (paramsOf v) m)) (g .header-is) (g .body-is)
+
+-- The engine meets demand 2.
+pub engine-demand-2 : Demand2 engine
+engine-demand-2 =
+    record { answers = engine-answered; seals = engine-seals; opens = engine-opens; counted = engine-counted }

@@ -1,0 +1,675 @@
+-- The engine after a list of calls from a new engine is a function of what the reader keeps, but for the tag and, in
+-- Final, the steps. By cases on the call and the phase; refused calls leave both as they are, since their checks agree.
+use mathlib.Core.Path.{_≡_, refl, sym, ap, ap₂, subst, _∙_}
+use mathlib.Core.Bool.{Bool, true, false, cond}
+use mathlib.Core.List.{List, [], _∷_, _++_, append-nil}
+use Prim.Native.Nat.{ℕ, suc, _+_, _-_, _%_, _^_, _≤_, _<_}
+use native.Mathlib.Nat.{mod-add-mod}
+use native.Mathlib.Omega.{arith}
+use borrow.Author.Tests.{ne-eqb}
+use lib.ListN.{length, length-append}
+use Rattle.schwaemm.specs.Bytes.{same}
+use Rattle.schwaemm.specs.Blocks.{held}
+use Rattle.schwaemm.specs.Schwaemm.{Params, Sizes, crypt, prepared, sealing, opening as openingBlock, beforeLast, lastBlock, message, tagOf, decrypt, tag, body as bodyOf, received, verified, leading, steps}
+use Rattle.schwaemm.proofs.RoundTrip.{tag-of-opened}
+use Rattle.tc_sparkle_aead.specs.declared.variant.SparkleVariant.{SparkleVariant}
+use Rattle.tc_sparkle_aead.specs.declared.phase.Direction.{Direction}
+use Rattle.tc_sparkle_aead.specs.declared.phase.Direction.the-variants.{Encrypt, Decrypt}
+use Rattle.tc_sparkle_aead.specs.declared.phase.Phase.{Phase}
+use Rattle.tc_sparkle_aead.specs.declared.phase.Phase.the-variants.{Uninitialized, Init, Aad, Data, Final}
+use Rattle.tc_sparkle_aead.specs.declared.aead_error.AeadResult.{AeadResult}
+use Rattle.tc_sparkle_aead.specs.declared.aead_error.AeadResult.the-variants.{Ok, Err}
+use Rattle.tc_sparkle_aead.specs.declared.aead_init_error.AeadInitResult.{AeadInitResult}
+use Rattle.tc_sparkle_aead.specs.declared.aead_init_error.AeadInitResult.the-variants.{Ok as StartOk, Err as StartErr}
+use Rattle.tc_sparkle_aead.specs.declared.engine.Mac.{Mac}
+use Rattle.tc_sparkle_aead.specs.declared.engine.SparkleEngine.{SparkleEngine}
+use Rattle.tc_sparkle_aead.specs.Variant.{paramsOf}
+use Rattle.tc_sparkle_aead.specs.Checks.{aadCheck, headerCheck, dataCheck, endCheck, startCheck, updateLen, totalLen}
+use Rattle.tc_sparkle_aead.specs.Engine.{noMessage, noMac, remember, currentKey, noSteps, initSteps, resetSteps, newEngine, updateOutputLen, outputLen}
+use Rattle.tc_sparkle_aead.specs.Calls.{stateIn, heldBytes, addSteps, atPoint, refused, headed, headedSteps, started, initBy, init, aadBy, processAadBytes, beginData, plainOf, dataIn, dataBy, processBytes, lastSteps, sealTag, openBlock, receivedTag, openLast, openTag, finalPoint, ended, readable, sealEnd, openEndBy, openEnd, finalBy, doFinal, dataAnswer, finalAnswer, afterHeader, plainBy, withoutHeader}
+use Rattle.tc_sparkle_aead.specs.Calls.{reset as resetEngine}
+use Rattle.tc_sparkle_aead.proofs.VariantLaws.{sizes, small}
+use Rattle.claims.specs.Call.{Call, step, runFrom, run}
+use Rattle.claims.specs.Reader.{Reader, newReader, inPhase, headerPhase, heldOf, repeated, readStart, readHeader, readMessage, readEnd, resetIn, read, readFrom, reader}
+use Rattle.claims.proofs.Points.{blockPoint}
+use Rattle.claims.proofs.Packets.{last-state, last-steps, length-body, packet-blocks, packet-state, held-block, held-received}
+use Rattle.claims.proofs.Kept.{headPoint, dataPoint, pointIn, initialIn, pairIn, headCount, dataCount, engineOf, openedMac, Standing, Fits, Follows, follows-new, holds-init, holds-aad, head-point, head-count, started-point, started-count, begin-point-init, begin-point-aad, begin-count-init, begin-count-aad, holds-data, state-data, data-point, data-count, key-back, repeats-agree, heldNow, data-agrees, update-agrees, total-agrees, end-agrees, phase-agrees, end-enough, start-good, Sealed}
+
+-- ---- The calls
+
+-- the phases that take data, in a direction
+pub data Takes (d : Direction) : Phase → Type 0 where
+  takes-init : Takes d (Init d)
+  takes-aad : Takes d (Aad d)
+  takes-data : Takes d (Data d)
+
+-- a reader by its parts, and the engine in its data
+abbrev pub kept : Bool → (key nonce initial : List ℕ) → Phase → (header body : List ℕ) → Reader
+kept loaded key nonce initial phase header body =
+    record { phase = phase; loaded = loaded; key = key; nonce = nonce; initial = initial; header = header; body = body }
+
+abbrev pub inData : SparkleVariant → Bool → (key nonce initial : List ℕ) → Direction → (header body : List ℕ) → SparkleEngine
+inData v loaded key nonce initial d header body =
+    engineOf v (kept loaded key nonce initial (Data d) header body) noMac (dataCount (paramsOf v) d header body)
+
+module _ (v : SparkleVariant) where
+  abbrev p : Params
+  p = paramsOf v
+
+  module _ (loaded : Bool) (key nonce initial : List ℕ) where
+    -- the reader by its other parts, and the engine in its data
+    abbrev keeps : Phase → (header body : List ℕ) → Reader
+    keeps phase header body = kept loaded key nonce initial phase header body
+
+    abbrev dataEngine : Direction → (header body : List ℕ) → SparkleEngine
+    dataEngine d header body = inData v loaded key nonce initial d header body
+
+    module _ (f : loaded ≡ true → Fits p key nonce) where
+      -- a header begun anew
+      restart : (l : loaded ≡ true) (d : Direction) (first : List ℕ)
+          → Follows v
+          (record {
+            variant = v;
+            current = headPoint p (headerPhase d first) key nonce first;
+            initial = headPoint p (headerPhase d first) key nonce first;
+            pair = pairIn loaded key nonce;
+            mac = noMac;
+            steps = record { current = headCount p (length first); initial = headCount p (length first) };
+          })
+          (record { phase = headerPhase d first; loaded = loaded; key = key; nonce = nonce; initial = first; header = first; body = [] })
+      restart l d [] =
+          record { mac = noMac; count = headCount p 0; same-engine = refl; fits = f; standing = (l, refl, refl, refl, refl) }
+      restart l d (x ∷ first) =
+          record {
+            mac = noMac;
+            count = headCount p (length (x ∷ first));
+            same-engine = refl;
+            fits = f;
+            standing = (l, refl, refl, omega arith, refl);
+          }
+
+      -- reset
+      reset-follows : (phase : Phase) (header body : List ℕ) (mac : Mac) (n : ℕ)
+          → Standing p phase loaded key nonce initial header body mac n
+          → Follows v (resetEngine (engineOf v (keeps phase header body) mac n)) (resetIn phase (keeps phase header body))
+      unfolding resetEngine resetSteps headPoint dataPoint blockPoint noMessage finalPoint
+      reset-follows Uninitialized header body mac n st =
+          record { mac = noMac; count = 0; same-engine = refl; fits = f; standing = (refl, refl) }
+      reset-follows (Init d) header body mac n st = restart (st .0) d initial
+      reset-follows (Aad d) header body mac n st = restart (st .0) d initial
+      reset-follows (Data Encrypt) header body mac n st =
+          record { mac = noMac; count = headCount p (length initial); same-engine = refl; fits = f; standing = (st .0, Sealed.stopped refl refl) }
+      reset-follows (Data Decrypt) header body mac n st = restart (st .0) Decrypt initial
+      reset-follows (Final Encrypt) header body mac n st =
+          record { mac = noMac; count = headCount p (length initial); same-engine = refl; fits = f; standing = (st .0, Sealed.stopped refl refl) }
+      reset-follows (Final Decrypt) header body mac n st = restart (st .0) Decrypt initial
+
+      -- the data begins
+      module _ (d : Direction) where
+        begin-init : beginData (engineOf v (keeps (Init d) [] []) noMac (headCount p 0))
+            ≡ engineOf v (keeps (Data d) [] []) noMac (dataCount p d [] [])
+        unfolding beginData atPoint addSteps headPoint dataPoint blockPoint withoutHeader afterHeader
+        begin-init =
+            λ i. record {
+              variant = v;
+              current = begin-point-init p (sizes v) (small v) key nonce d i;
+              initial = initialIn p (Data d) key nonce initial;
+              pair = pairIn loaded key nonce;
+              mac = noMac;
+              steps = record { current = begin-count-init p (sizes v) (small v) d i; initial = headCount p (length initial) };
+            }
+
+        begin-aad : (header : List ℕ) → 0 < length header
+            → beginData (engineOf v (keeps (Aad d) header []) noMac (headCount p (length header)))
+            ≡ engineOf v (keeps (Data d) header []) noMac (dataCount p d header [])
+        unfolding beginData atPoint addSteps headPoint dataPoint blockPoint withoutHeader afterHeader heldBytes held
+        begin-aad header some =
+            λ i. record {
+              variant = v;
+              current = begin-point-aad p (sizes v) (small v) key nonce d header some i;
+              initial = initialIn p (Data d) key nonce initial;
+              pair = pairIn loaded key nonce;
+              mac = noMac;
+              steps = record { current = begin-count-aad p (sizes v) (small v) d header some i; initial = headCount p (length initial) };
+            }
+
+        pub data-in : (header body input : List ℕ)
+            → dataIn (engineOf v (keeps (Data d) header body) noMac (dataCount p d header body)) input
+            ≡ engineOf v (keeps (Data d) header (body ++ input)) noMac (dataCount p d header (body ++ input))
+        unfolding dataIn atPoint addSteps dataPoint blockPoint
+        data-in header body input =
+            λ i. record {
+              variant = v;
+              current = data-point p (sizes v) (small v) d key nonce header body input i;
+              initial = initialIn p (Data d) key nonce initial;
+              pair = pairIn loaded key nonce;
+              mac = noMac;
+              steps = record { current = data-count p (sizes v) (small v) d key nonce header body input i; initial = headCount p (length initial) };
+            }
+
+      -- a phase that takes data, in a direction
+      pub begun-data : {phase : Phase} {d : Direction} → Takes d phase → (header body : List ℕ) (mac : Mac) (n : ℕ)
+          → Standing p phase loaded key nonce initial header body mac n
+          → beginData (engineOf v (keeps phase header body) mac n)
+          ≡ engineOf v (keeps (Data d) header body) noMac (dataCount p d header body)
+      unfolding beginData dataPoint blockPoint withoutHeader afterHeader
+      begun-data {d = d} takes-init header body mac n st =
+          (λ i. beginData (engineOf v (keeps (Init d) (st .3 i) (st .4 i)) (st .1 i) ((st .2 ∙ ap (λ (l : List ℕ). headCount p (length l)) (st .3)) i)))
+          ∙ begin-init d
+          ∙ sym (λ i. engineOf v (keeps (Data d) (st .3 i) (st .4 i)) noMac (dataCount p d (st .3 i) (st .4 i)))
+      begun-data {d = d} takes-aad header body mac n st =
+          (λ i. beginData (engineOf v (keeps (Aad d) header (st .4 i)) (st .1 i) (st .2 i)))
+          ∙ begin-aad d header (st .3)
+          ∙ sym (λ i. engineOf v (keeps (Data d) header (st .4 i)) noMac (dataCount p d header (st .4 i)))
+      begun-data {d = d} takes-data header body mac n st = λ i. engineOf v (keeps (Data d) header body) (st .1 i) (st .2 i)
+
+      pub takes-loaded : {phase : Phase} {d : Direction} → Takes d phase → (header body : List ℕ) (mac : Mac) (n : ℕ)
+          → Standing p phase loaded key nonce initial header body mac n → loaded ≡ true
+      takes-loaded takes-init header body mac n st = st .0
+      takes-loaded takes-aad header body mac n st = st .0
+      takes-loaded takes-data header body mac n st = st .0
+
+      -- a header call
+      more-header : (d : Direction) (l : loaded ≡ true) (header body input : List ℕ) (e : SparkleEngine)
+          → 0 < length (header ++ input) → body ≡ []
+          → e ≡ engineOf v (keeps (Aad d) (header ++ input) body) noMac (headCount p (length (header ++ input)))
+          → Follows v e (keeps (Aad d) (header ++ input) body)
+      more-header d l header body input e some none is =
+          record {
+            mac = noMac;
+            count = headCount p (length (header ++ input));
+            same-engine = is;
+            fits = f;
+            standing = (l, refl, refl, some, none);
+          }
+
+      header-in : (phase : Phase) (d : Direction) (header body : List ℕ) (mac : Mac) (n : ℕ) (x : ℕ) (input : List ℕ)
+          → heldBytes p (headPoint p phase key nonce header) ≡ held (p .rate) 0 header
+          → mac ≡ noMac → n ≡ headCount p (length header)
+          → _≡_ {A = SparkleEngine}
+          (record {
+            variant = v;
+            current = headed p d (headPoint p phase key nonce header) (x ∷ input);
+            initial = initialIn p (Aad d) key nonce initial;
+            pair = pairIn loaded key nonce;
+            mac = mac;
+            steps =
+                record {
+                  current = (n + headedSteps p (headPoint p phase key nonce header) (x ∷ input)) % 2 ^ 64;
+                  initial = headCount p (length initial);
+                };
+          })
+          (engineOf v (keeps (Aad d) (header ++ (x ∷ input)) body) noMac (headCount p (length (header ++ (x ∷ input)))))
+      header-in phase d header body mac n x input holds no-mac counts =
+          λ i. record {
+            variant = v;
+            current = head-point p (sizes v) (small v) key nonce phase header holds d x input i;
+            initial = initialIn p (Aad d) key nonce initial;
+            pair = pairIn loaded key nonce;
+            mac = no-mac i;
+            steps =
+                record {
+                  current =
+                      (ap (λ (c : ℕ). (c + headedSteps p (headPoint p phase key nonce header) (x ∷ input)) % 2 ^ 64) counts
+                      ∙ head-count p (sizes v) (small v) key nonce phase header holds d x input) i;
+                  initial = headCount p (length initial);
+                };
+          }
+
+      header-follows : (phase : Phase) (header body : List ℕ) (mac : Mac) (n : ℕ)
+          → Standing p phase loaded key nonce initial header body mac n → (x : ℕ) (input : List ℕ)
+          → Follows v (aadBy (headerCheck phase) (engineOf v (keeps phase header body) mac n) (x ∷ input) .engine)
+          (readHeader (headerCheck phase) (keeps phase header body) (x ∷ input) .reader)
+      unfolding atPoint addSteps headPoint blockPoint
+      header-follows Uninitialized header body mac n st x input =
+          record { mac = mac; count = n; same-engine = refl; fits = f; standing = st }
+      header-follows (Init d) header body mac n st x input =
+          more-header d (st .0) header body (x ∷ input) _ (simp length-append (omega arith)) (st .4)
+          (header-in (Init d) d header body mac n x input
+          (ap (λ (l : List ℕ). heldBytes p (headPoint p (Init d) key nonce l)) (st .3)
+          ∙ holds-init p (sizes v) (small v) key nonce d ∙ ap (held (p .rate) 0) (sym (st .3)))
+          (st .1) (st .2))
+      header-follows (Aad d) header body mac n st x input =
+          more-header d (st .0) header body (x ∷ input) _ (simp length-append (omega arith)) (st .4)
+          (header-in (Aad d) d header body mac n x input (holds-aad p (sizes v) (small v) key nonce d header) (st .1)
+          (st .2))
+      header-follows (Data d) header body mac n st x input =
+          record { mac = mac; count = n; same-engine = refl; fits = f; standing = st }
+      header-follows (Final d) header body mac n st x input =
+          record { mac = mac; count = n; same-engine = refl; fits = f; standing = st }
+
+      -- a data call
+      into-data : (d : Direction) (l : loaded ≡ true) (header body input : List ℕ) (e : SparkleEngine)
+          → e ≡ engineOf v (keeps (Data d) header body) noMac (dataCount p d header body)
+          → Follows v (dataIn e input) (keeps (Data d) header (body ++ input))
+      into-data d l header body input e is =
+          record {
+            mac = noMac;
+            count = dataCount p d header (body ++ input);
+            same-engine = ap (λ (x : SparkleEngine). dataIn x input) is ∙ data-in d header body input;
+            fits = f;
+            standing = (l, refl, refl);
+          }
+
+      data-follows : {phase : Phase} {d : Direction} → Takes d phase → (header body : List ℕ) (mac : Mac) (n : ℕ)
+          → Standing p phase loaded key nonce initial header body mac n → (input : List ℕ) (k : AeadResult)
+          → Follows v (dataBy k (engineOf v (keeps phase header body) mac n) input .engine)
+          (readMessage k (keeps phase header body) input .reader)
+      data-follows t header body mac n st input (Err x) =
+          record { mac = mac; count = n; same-engine = refl; fits = f; standing = st }
+      data-follows {d = d} takes-init header body mac n st input (Ok k) =
+          into-data d (st .0) header body input _ (begun-data {d = d} takes-init header body mac n st)
+      data-follows {d = d} takes-aad header body mac n st input (Ok k) =
+          into-data d (st .0) header body input _ (begun-data {d = d} takes-aad header body mac n st)
+      data-follows {d = d} takes-data header body mac n st input (Ok k) =
+          into-data d (st .0) header body input _ (begun-data {d = d} takes-data header body mac n st)
+
+      -- the end
+      end-engine : (d : Direction) (header body : List ℕ) (mac : Mac) (k c : ℕ) → (dataCount p d header body + k) % 2 ^ 64
+          ≡ c
+          → ended (dataEngine d header body) d mac k ≡ engineOf v (keeps (Final d) header body) mac c
+      unfolding ended addSteps
+      end-engine d header body mac k c e =
+          λ i. record {
+            variant = v;
+            current = finalPoint d;
+            initial = initialIn p (Data d) key nonce initial;
+            pair = pairIn loaded key nonce;
+            mac = mac;
+            steps = record { current = e i; initial = headCount p (length initial) };
+          }
+
+      module _ (l : loaded ≡ true) (header body : List ℕ) where
+        now-key : currentKey p (pairIn loaded key nonce) ≡ key
+        now-key = ap (λ (b : Bool). currentKey p (pairIn b key nonce)) l ∙ key-back p (small v) key nonce (f l)
+
+        -- a sealing
+        pub sealing-state : stateIn p (dataPoint p Encrypt key nonce header body .words)
+            ≡ beforeLast p (sealing p) (prepared p key nonce header) body
+        unfolding beforeLast leading plainOf plainBy
+        sealing-state = state-data p (sizes v) (small v) Encrypt key nonce header body
+
+        pub sealing-block : heldBytes p (dataPoint p Encrypt key nonce header body) ≡ lastBlock p body
+        unfolding lastBlock leading held
+        sealing-block = holds-data p (sizes v) (small v) Encrypt key nonce header body
+
+        pub sealing-tag : sealTag (dataEngine Encrypt header body) ≡ tag p key nonce header body
+        unfolding sealTag tag sealing
+        sealing-tag =
+            rw (now-key, sealing-state, sealing-block)
+            (ap (tagOf p key)
+            (last-state p (sealing p) (prepared p key nonce header) body))
+
+        sealing-count :
+            (dataCount p Encrypt header body + lastSteps p (heldBytes p (dataPoint p Encrypt key nonce header body))) % 2 ^ 64
+            ≡ steps p (length header) (length body) % 2 ^ 64
+        unfolding dataCount steps leading
+        sealing-count =
+            rw sealing-block
+            (mod-add-mod _ (2 ^ 64) (lastSteps p (lastBlock p body))
+            ∙ ap (λ (k : ℕ). k % 2 ^ 64) (omega (arith, last-steps p body)))
+
+        pub seal-engine : (k : ℕ)
+            → sealEnd (dataEngine Encrypt header body) k .engine
+            ≡ engineOf v (keeps (Final Encrypt) header body) (readable (tag p key nonce header body))
+            (steps p (length header) (length body) % 2 ^ 64)
+        unfolding sealEnd
+        seal-engine k =
+            ap (λ (t : List ℕ). ended (dataEngine Encrypt header body) Encrypt (readable t)
+            (lastSteps p (heldBytes p (dataPoint p Encrypt key nonce header body)))) sealing-tag
+            ∙ end-engine Encrypt header body _ _ _ sealing-count
+
+        -- an opening
+        module _ (enough : p .key ≤ length body) where
+          pub opening-state : stateIn p (dataPoint p Decrypt key nonce header body .words)
+              ≡ beforeLast p (openingBlock p) (prepared p key nonce header) (bodyOf p body)
+          unfolding plainOf plainBy
+          opening-state =
+              state-data p (sizes v) (small v) Decrypt key nonce header body
+              ∙ packet-state p body enough (openingBlock p) (prepared p key nonce header)
+
+          opening-holds : heldBytes p (dataPoint p Decrypt key nonce header body)
+              ≡ held (p .rate) (p .key) body
+          opening-holds = holds-data p (sizes v) (small v) Decrypt key nonce header body
+
+          pub opening-block : openBlock (dataEngine Decrypt header body) ≡ lastBlock p (bodyOf p body)
+          unfolding openBlock
+          opening-block = rw opening-holds (held-block p body enough)
+
+          pub opening-received : receivedTag (dataEngine Decrypt header body) ≡ received p body
+          unfolding receivedTag
+          opening-received = rw opening-holds (held-received p body enough)
+
+          pub opening-last : openLast (dataEngine Decrypt header body)
+              ≡ crypt p
+              (beforeLast p (openingBlock p) (prepared p key nonce header) (bodyOf p body))
+              (lastBlock p (bodyOf p body))
+          unfolding openLast
+          opening-last = rw (opening-block, opening-state)
+
+          pub opening-tag : openTag (dataEngine Decrypt header body)
+              ≡ tag p key nonce header (decrypt p key nonce header (bodyOf p body))
+          unfolding openTag openingBlock
+          opening-tag =
+              rw (now-key, opening-last, opening-block, opening-state)
+              (ap (tagOf p key)
+              (last-state p (openingBlock p) (prepared p key nonce header) (bodyOf p body))
+              ∙ sym (tag-of-opened p (sizes v) key nonce header (bodyOf p body)))
+
+          pub opening-verified : same (receivedTag (dataEngine Decrypt header body))
+              (openTag (dataEngine Decrypt header body))
+              ≡ verified p key nonce header body
+          unfolding verified
+          opening-verified = ap₂ same opening-received opening-tag
+
+          opening-count :
+              (dataCount p Decrypt header body + lastSteps p (openBlock (dataEngine Decrypt header body))) % 2 ^ 64
+              ≡ steps p (length header) (length body - p .key) % 2 ^ 64
+          unfolding dataCount steps
+          opening-count =
+              rw (opening-block, packet-blocks p body enough, ← length-body p body enough)
+              (mod-add-mod _ (2 ^ 64) (lastSteps p (lastBlock p (bodyOf p body)))
+              ∙ ap (λ (k : ℕ). k % 2 ^ 64) (omega (arith, last-steps p (bodyOf p body))))
+
+          pub open-engine : (k : ℕ)
+              → openEnd (dataEngine Decrypt header body) k .engine
+              ≡ engineOf v (keeps (Final Decrypt) header body) (openedMac p key nonce header body)
+              (steps p (length header) (length body - p .key) % 2 ^ 64)
+          unfolding openEnd openedMac
+          open-engine k =
+              ap (λ (b : Bool). openEndBy b (dataEngine Decrypt header body) k .engine) opening-verified ∙ by
+              (verified p key nonce header body)
+            where
+              by : (b : Bool) → openEndBy b (dataEngine Decrypt header body) k .engine
+                  ≡ engineOf v (keeps (Final Decrypt) header body)
+                  (cond b (readable (tag p key nonce header (decrypt p key nonce header (bodyOf p body)))) noMac)
+                  (steps p (length header) (length body - p .key) % 2 ^ 64)
+              by true =
+                  ap (λ (t : List ℕ). ended (dataEngine Decrypt header body) Decrypt (readable t)
+                  (lastSteps p (openBlock (dataEngine Decrypt header body)))) opening-tag
+                  ∙ end-engine Decrypt header body _ _ _ opening-count
+              by false = end-engine Decrypt header body _ _ _ opening-count
+
+        sealed-follows : (k : ℕ) (e : SparkleEngine) → e ≡ dataEngine Encrypt header body
+            → Follows v (sealEnd e k .engine) (keeps (Final Encrypt) header body)
+        sealed-follows k e is =
+            record {
+              mac = readable (tag p key nonce header body);
+              count = steps p (length header) (length body) % 2 ^ 64;
+              same-engine = ap (λ (x : SparkleEngine). sealEnd x k .engine) is ∙ seal-engine k;
+              fits = f;
+              standing = (l, Sealed.finished refl refl);
+            }
+
+        opened-follows : p .key ≤ length body → (k : ℕ) (e : SparkleEngine) → e ≡ dataEngine Decrypt header body
+            → Follows v (openEnd e k .engine) (keeps (Final Decrypt) header body)
+        opened-follows enough k e is =
+            record {
+              mac = openedMac p key nonce header body;
+              count = steps p (length header) (length body - p .key) % 2 ^ 64;
+              same-engine = ap (λ (x : SparkleEngine). openEnd x k .engine) is ∙ open-engine enough k;
+              fits = f;
+              standing = (l, refl, refl, enough);
+            }
+
+      seal-follows : {phase : Phase} → Takes Encrypt phase → (header body : List ℕ) (mac : Mac) (n : ℕ)
+          → Standing p phase loaded key nonce initial header body mac n → (k : AeadResult)
+          → Follows v (finalBy k (engineOf v (keeps phase header body) mac n) .engine)
+          (readEnd k p (keeps phase header body) .reader)
+      unfolding headPoint dataPoint blockPoint
+      seal-follows t header body mac n st (Err x) =
+          record { mac = mac; count = n; same-engine = refl; fits = f; standing = st }
+      seal-follows takes-init header body mac n st (Ok k) =
+          sealed-follows (st .0) header body k _ (begun-data {d = Encrypt} takes-init header body mac n st)
+      seal-follows takes-aad header body mac n st (Ok k) =
+          sealed-follows (st .0) header body k _ (begun-data {d = Encrypt} takes-aad header body mac n st)
+      seal-follows takes-data header body mac n st (Ok k) =
+          sealed-follows (st .0) header body k _ (begun-data {d = Encrypt} takes-data header body mac n st)
+
+      open-follows : {phase : Phase} → Takes Decrypt phase → (header body : List ℕ) (mac : Mac) (n : ℕ)
+          → Standing p phase loaded key nonce initial header body mac n → (k : AeadResult)
+          → ((j : ℕ) → k ≡ Ok j → p .key ≤ length body)
+          → Follows v (finalBy k (engineOf v (keeps phase header body) mac n) .engine)
+          (readEnd k p (keeps phase header body) .reader)
+      unfolding headPoint dataPoint blockPoint
+      open-follows t header body mac n st (Err x) enough =
+          record { mac = mac; count = n; same-engine = refl; fits = f; standing = st }
+      open-follows takes-init header body mac n st (Ok k) enough =
+          opened-follows (st .0) header body (enough k refl) k _ (begun-data {d = Decrypt} takes-init header body mac n st)
+      open-follows takes-aad header body mac n st (Ok k) enough =
+          opened-follows (st .0) header body (enough k refl) k _ (begun-data {d = Decrypt} takes-aad header body mac n st)
+      open-follows takes-data header body mac n st (Ok k) enough =
+          opened-follows (st .0) header body (enough k refl) k _ (begun-data {d = Decrypt} takes-data header body mac n st)
+
+-- a start
+start-follows : (v : SparkleVariant) (r : Reader) (mac : Mac) (n : ℕ)
+    → (r .loaded ≡ true → Fits (paramsOf v) (r .key) (r .nonce))
+    → (d : Direction) (key nonce header : List ℕ) (k : AeadInitResult) → (k ≡ StartOk → Fits (paramsOf v) key nonce)
+    → Follows v (initBy k (engineOf v r mac n) d key nonce header .engine) (readStart k r d key nonce header .reader)
+unfolding started refused initSteps noSteps
+start-follows v r mac n f d key nonce header (StartErr x) g =
+    record { mac = noMac; count = 0; same-engine = refl; fits = f; standing = (refl, refl) }
+start-follows v r mac n f d key nonce header StartOk g =
+    let p = paramsOf v in
+    let e : started (engineOf v r mac n) d key nonce header
+    ≡ record {
+      variant = v;
+      current = headPoint p (headerPhase d header) key nonce header;
+      initial = headPoint p (headerPhase d header) key nonce header;
+      pair = remember key nonce;
+      mac = noMac;
+      steps = record { current = headCount p (length header); initial = headCount p (length header) };
+    } =
+    λ i. record {
+      variant = v;
+      current = started-point p (sizes v) (small v) key nonce d header i;
+      initial = started-point p (sizes v) (small v) key nonce d header i;
+      pair = remember key nonce;
+      mac = noMac;
+      steps =
+          record {
+            current = started-count p (sizes v) (small v) key nonce d header i;
+            initial = started-count p (sizes v) (small v) key nonce d header i;
+          };
+    }
+    in
+    subst (λ (x : SparkleEngine). Follows v x (readStart StartOk r d key nonce header .reader)) (sym e)
+    (restart v true key nonce header (λ _. g refl) refl d header)
+
+-- ---- A call
+
+pub aad-some : (phase : Phase) (n : ℕ) → aadCheck phase (suc n) ≡ headerCheck phase
+unfolding aadCheck
+aad-some phase n = rw (ne-eqb (suc n) 0 (λ e. omega arith))
+
+-- a data call and an end, by the phase
+message-step : (v : SparkleVariant) (phase : Phase) (loaded : Bool) (key nonce initial header body : List ℕ) (mac : Mac)
+    (n : ℕ)
+    → (loaded ≡ true → Fits (paramsOf v) key nonce) → Standing (paramsOf v) phase loaded key nonce initial header body mac n
+    → (input : List ℕ) (held a : ℕ)
+    → Follows v
+    (dataBy (dataCheck (paramsOf v) phase held (length input) a)
+    (engineOf v (kept loaded key nonce initial phase header body) mac n) input .engine)
+    (readMessage (dataCheck (paramsOf v) phase held (length input) a)
+    (kept loaded key nonce initial phase header body) input .reader)
+unfolding dataCheck
+message-step v Uninitialized loaded key nonce initial header body mac n f st input held a =
+    record { mac = mac; count = n; same-engine = refl; fits = f; standing = st }
+message-step v (Init d) loaded key nonce initial header body mac n f st input held a =
+    data-follows v loaded key nonce initial f {d = d} takes-init header body mac n st input
+    (dataCheck (paramsOf v) (Init d) held (length input) a)
+message-step v (Aad d) loaded key nonce initial header body mac n f st input held a =
+    data-follows v loaded key nonce initial f {d = d} takes-aad header body mac n st input
+    (dataCheck (paramsOf v) (Aad d) held (length input) a)
+message-step v (Data d) loaded key nonce initial header body mac n f st input held a =
+    data-follows v loaded key nonce initial f {d = d} takes-data header body mac n st input
+    (dataCheck (paramsOf v) (Data d) held (length input) a)
+message-step v (Final d) loaded key nonce initial header body mac n f st input held a =
+    record { mac = mac; count = n; same-engine = refl; fits = f; standing = st }
+
+pub takes-enough : (p : Params) → Sizes p → {phase : Phase} → Takes Decrypt phase
+    → (key nonce header body : List ℕ) (a k : ℕ)
+    → endCheck p phase (heldNow p key nonce header body phase) a ≡ Ok k → p .key ≤ length body
+takes-enough p h takes-init key nonce header body a k e =
+    absurd (omega (arith, end-enough p (Init Decrypt) (heldNow p key nonce header body (Init Decrypt)) a k refl e))
+takes-enough p h takes-aad key nonce header body a k e =
+    absurd (omega (arith, end-enough p (Aad Decrypt) (heldNow p key nonce header body (Aad Decrypt)) a k refl e))
+takes-enough p h takes-data key nonce header body a k e =
+    omega (arith, end-enough p (Data Decrypt) (heldNow p key nonce header body (Data Decrypt)) a k refl e)
+
+end-step : (v : SparkleVariant) (phase : Phase) (loaded : Bool) (key nonce initial header body : List ℕ) (mac : Mac) (n : ℕ)
+    → (loaded ≡ true → Fits (paramsOf v) key nonce) → Standing (paramsOf v) phase loaded key nonce initial header body mac n
+    → (a : ℕ)
+    → Follows v
+    (finalBy (endCheck (paramsOf v) phase (heldNow (paramsOf v) key nonce header body phase) a)
+    (engineOf v (kept loaded key nonce initial phase header body) mac n) .engine)
+    (readEnd (endCheck (paramsOf v) phase (heldNow (paramsOf v) key nonce header body phase) a) (paramsOf v)
+    (kept loaded key nonce initial phase header body) .reader)
+end-step v Uninitialized loaded key nonce initial header body mac n f st a =
+    unfold endCheck in record { mac = mac; count = n; same-engine = refl; fits = f; standing = st }
+end-step v (Init Encrypt) loaded key nonce initial header body mac n f st a =
+    seal-follows v loaded key nonce initial f takes-init header body mac n st
+    (endCheck (paramsOf v) (Init Encrypt) (heldNow (paramsOf v) key nonce header body (Init Encrypt)) a)
+end-step v (Aad Encrypt) loaded key nonce initial header body mac n f st a =
+    seal-follows v loaded key nonce initial f takes-aad header body mac n st
+    (endCheck (paramsOf v) (Aad Encrypt) (heldNow (paramsOf v) key nonce header body (Aad Encrypt)) a)
+end-step v (Data Encrypt) loaded key nonce initial header body mac n f st a =
+    seal-follows v loaded key nonce initial f takes-data header body mac n st
+    (endCheck (paramsOf v) (Data Encrypt) (heldNow (paramsOf v) key nonce header body (Data Encrypt)) a)
+end-step v (Init Decrypt) loaded key nonce initial header body mac n f st a =
+    open-follows v loaded key nonce initial f takes-init header body mac n st
+    (endCheck (paramsOf v) (Init Decrypt) (heldNow (paramsOf v) key nonce header body (Init Decrypt)) a)
+    (takes-enough (paramsOf v) (sizes v) takes-init key nonce header body a)
+end-step v (Aad Decrypt) loaded key nonce initial header body mac n f st a =
+    open-follows v loaded key nonce initial f takes-aad header body mac n st
+    (endCheck (paramsOf v) (Aad Decrypt) (heldNow (paramsOf v) key nonce header body (Aad Decrypt)) a)
+    (takes-enough (paramsOf v) (sizes v) takes-aad key nonce header body a)
+end-step v (Data Decrypt) loaded key nonce initial header body mac n f st a =
+    open-follows v loaded key nonce initial f takes-data header body mac n st
+    (endCheck (paramsOf v) (Data Decrypt) (heldNow (paramsOf v) key nonce header body (Data Decrypt)) a)
+    (takes-enough (paramsOf v) (sizes v) takes-data key nonce header body a)
+end-step v (Final d) loaded key nonce initial header body mac n f st a =
+    unfold endCheck in record { mac = mac; count = n; same-engine = refl; fits = f; standing = st }
+
+-- the engine's checks are the reader's
+module _ (v : SparkleVariant) (r : Reader) (mac : Mac) (n : ℕ) where
+  pub data-answer : (k a : ℕ) → dataAnswer (engineOf v r mac n) k a
+      ≡ dataCheck (paramsOf v) (r .phase) (heldOf (paramsOf v) r) k a
+  data-answer k a =
+      let p = paramsOf v in
+      let at = pointIn p (r .phase) (r .key) (r .nonce) (r .header) (r .body) in
+      ap (λ (phase : Phase). dataCheck p phase (at .held) k a)
+      (phase-agrees p (r .key) (r .nonce) (r .header) (r .body) (r .phase))
+      ∙ data-agrees p (r .key) (r .nonce) (r .header) (r .body) (r .phase) k a
+
+  pub final-answer : (a : ℕ) → finalAnswer (engineOf v r mac n) a
+      ≡ endCheck (paramsOf v) (r .phase) (heldOf (paramsOf v) r) a
+  final-answer a =
+      let p = paramsOf v in
+      let at = pointIn p (r .phase) (r .key) (r .nonce) (r .header) (r .body) in
+      ap (λ (phase : Phase). endCheck p phase (at .held) a) (phase-agrees p (r .key) (r .nonce) (r .header) (r .body)
+      (r .phase))
+      ∙ end-agrees p (r .key) (r .nonce) (r .header) (r .body) (r .phase) a
+
+  pub update-answer : (k : ℕ) → updateOutputLen (engineOf v r mac n) k
+      ≡ updateLen (paramsOf v) (r .phase) (heldOf (paramsOf v) r) k
+  unfolding updateOutputLen
+  update-answer k =
+      let p = paramsOf v in
+      let at = pointIn p (r .phase) (r .key) (r .nonce) (r .header) (r .body) in
+      ap (λ (phase : Phase). updateLen p phase (at .held) k) (phase-agrees p (r .key) (r .nonce) (r .header) (r .body)
+      (r .phase))
+      ∙ update-agrees p (r .key) (r .nonce) (r .header) (r .body) (r .phase) k
+
+  pub total-answer : (k : ℕ) → outputLen (engineOf v r mac n) k ≡ totalLen (paramsOf v) (r .phase) (heldOf (paramsOf v) r) k
+  unfolding outputLen
+  total-answer k =
+      let p = paramsOf v in
+      let at = pointIn p (r .phase) (r .key) (r .nonce) (r .header) (r .body) in
+      ap (λ (phase : Phase). totalLen p phase (at .held) k) (phase-agrees p (r .key) (r .nonce) (r .header) (r .body)
+      (r .phase))
+      ∙ total-agrees p (r .key) (r .nonce) (r .header) (r .body) (r .phase) k
+
+  pub header-answer : (k : ℕ) → aadCheck (engineOf v r mac n .current .phase) k ≡ aadCheck (r .phase) k
+  header-answer k =
+      ap (λ (phase : Phase). aadCheck phase k) (phase-agrees (paramsOf v) (r .key) (r .nonce) (r .header) (r .body)
+      (r .phase))
+
+-- a call on the engine that the reader gives
+module _ (v : SparkleVariant) (r : Reader) (mac : Mac) (n : ℕ) (f : r .loaded ≡ true → Fits (paramsOf v) (r .key) (r .nonce))
+    (st : Standing (paramsOf v) (r .phase) (r .loaded) (r .key) (r .nonce) (r .initial) (r .header) (r .body) mac n) where
+  unchanged : Follows v (engineOf v r mac n) r
+  unchanged = record { mac = mac; count = n; same-engine = refl; fits = f; standing = st }
+
+  start-step : (d : Direction) (key nonce : List ℕ) (size : ℕ) (h : List ℕ)
+      → Follows v (init (engineOf v r mac n) d key nonce size h .engine)
+      (read (paramsOf v) r (Call.start d key nonce size h) .reader)
+  unfolding init read
+  start-step d key nonce size h =
+      let p = paramsOf v in
+      let k = startCheck p d (length key) (length nonce) size (repeated r key nonce) in
+      subst (λ (b : Bool). Follows v (initBy (startCheck p d (length key) (length nonce) size b) (engineOf v r mac n) d key nonce h .engine)
+      (readStart k r d key nonce h .reader))
+      (sym (repeats-agree p (small v) (r .loaded) (r .key) (r .nonce) f key nonce))
+      (start-follows v r mac n f d key nonce h k
+      (λ e. let g = start-good p d (length key) (length nonce) size (repeated r key nonce) e in record { key-fits = g .0; nonce-fits = g .1 }))
+
+  header-some : (x : ℕ) (input : List ℕ)
+      → Follows v (aadBy (aadCheck (engineOf v r mac n .current .phase) (suc (length input))) (engineOf v r mac n)
+      (x ∷ input) .engine)
+      (readHeader (aadCheck (r .phase) (suc (length input))) r (x ∷ input) .reader)
+  header-some x input =
+      subst (λ (k : AeadResult). Follows v (aadBy k (engineOf v r mac n) (x ∷ input) .engine)
+      (readHeader (aadCheck (r .phase) (suc (length input))) r (x ∷ input) .reader))
+      (sym (header-answer v r mac n (suc (length input))))
+      (subst (λ (k : AeadResult). Follows v (aadBy k (engineOf v r mac n) (x ∷ input) .engine) (readHeader k r (x ∷ input) .reader))
+      (sym (aad-some (r .phase) (length input)))
+      (header-follows v (r .loaded) (r .key) (r .nonce) (r .initial) f (r .phase) (r .header) (r .body) mac n st x input))
+
+  header-step : (input : List ℕ)
+      → Follows v (processAadBytes (engineOf v r mac n) input .engine) (read (paramsOf v) r (Call.header input) .reader)
+  unfolding processAadBytes read aadCheck
+  header-step [] =
+      subst (λ (l : List ℕ). Follows v (engineOf v r mac n) (inPhase r (r .phase) l (r .body)))
+      (sym (append-nil (r .header))) unchanged
+  header-step (x ∷ input) = header-some x input
+
+  call-step : (c : Call) → Follows v (step (engineOf v r mac n) c .engine) (read (paramsOf v) r c .reader)
+  unfolding step processBytes doFinal
+  call-step (Call.start d key nonce size h) = start-step d key nonce size h
+  call-step (Call.header input) = header-step input
+  call-step (Call.message input out) = unfold read in
+      subst (λ (k : AeadResult). Follows v (dataBy k (engineOf v r mac n) input .engine)
+      (read (paramsOf v) r (Call.message input out) .reader))
+      (sym (data-answer v r mac n (length input) (length out)))
+      (message-step v (r .phase) (r .loaded) (r .key) (r .nonce) (r .initial) (r .header) (r .body) mac n f st input
+      (heldOf (paramsOf v) r) (length out))
+  call-step (Call.end out) = unfold read in
+      subst (λ (k : AeadResult). Follows v (finalBy k (engineOf v r mac n) .engine)
+      (read (paramsOf v) r (Call.end out) .reader))
+      (sym (final-answer v r mac n (length out)))
+      (end-step v (r .phase) (r .loaded) (r .key) (r .nonce) (r .initial) (r .header) (r .body) mac n f st (length out))
+  call-step Call.reset =
+      unfold read in reset-follows v (r .loaded) (r .key) (r .nonce) (r .initial) f (r .phase) (r .header) (r .body) mac n st
+  call-step Call.tag = unfold read in unchanged
+  call-step (Call.update k) = unfold read in unchanged
+  call-step (Call.output k) = unfold read in unchanged
+
+-- ---- Every call, refused or not, and every list of calls
+
+pub follows-step : (v : SparkleVariant) (e : SparkleEngine) (r : Reader) → Follows v e r → (c : Call)
+    → Follows v (step e c .engine) (read (paramsOf v) r c .reader)
+follows-step v e r w c =
+    subst (λ (x : SparkleEngine). Follows v (step x c .engine) (read (paramsOf v) r c .reader)) (sym (w .same-engine))
+    (call-step v r (w .mac) (w .count) (w .fits) (w .standing) c)
+
+pub follows-from : (v : SparkleVariant) (e : SparkleEngine) (r : Reader) → Follows v e r → (calls : List Call)
+    → Follows v (runFrom e calls) (readFrom (paramsOf v) r calls)
+unfolding runFrom readFrom
+follows-from v e r w [] = w
+follows-from v e r w (c ∷ calls) =
+    follows-from v (step e c .engine) (read (paramsOf v) r c .reader) (follows-step v e r w c) calls
+
+pub follows-run : (v : SparkleVariant) (calls : List Call) → Follows v (run v calls) (reader v calls)
+unfolding run reader
+follows-run v calls = follows-from v (newEngine v) newReader (follows-new v) calls

@@ -1,0 +1,442 @@
+-- What the engine is after a list of calls, from what the reader keeps, and what holds in each phase; with the laws of the
+-- parts of a call on such an engine: its points, its step count and its checks.
+use mathlib.Core.Path.{_≡_, refl, sym, ap, ap₂, _∙_}
+use mathlib.Core.Bool.{Bool, true, false, cond, not}
+use mathlib.Core.List.{List, [], _∷_, _++_}
+use Prim.Native.Nat.{ℕ, _+_, _-_, _*_, _%_, _^_, _≤_, _<_}
+use native.Mathlib.Nat.{mod-add-mod, add-mul}
+use native.Mathlib.Omega.{arith}
+use lib.Dec.{eqb, ltb}
+use borrow.Author.Tests.{eqb-true, ltb-false}
+use lib.ListN.{length}
+use Rattle.schwaemm.specs.Bytes.{same, ifEmpty}
+use Rattle.schwaemm.specs.Blocks.{ready, after, given, held}
+use Rattle.schwaemm.specs.Schwaemm.{Params, Sizes, mixLast, initialise, absorbBlock, absorb, prepared, messageBlock, decrypt, tag, body as bodyOf, verified, leading, stepsOf, steps}
+use Rattle.schwaemm.proofs.Cut.{length-held, ready-cut}
+use Rattle.schwaemm.proofs.States.{stateLength, length-absorbBlock, length-messageBlock, length-initialise, length-prepared, length-mixLast}
+use Rattle.schwaemm.proofs.Steps.{steps-some}
+use Rattle.tc_sparkle_aead.specs.declared.variant.SparkleVariant.{SparkleVariant}
+use Rattle.tc_sparkle_aead.specs.declared.phase.Direction.{Direction}
+use Rattle.tc_sparkle_aead.specs.declared.phase.Direction.the-variants.{Encrypt, Decrypt}
+use Rattle.tc_sparkle_aead.specs.declared.phase.Phase.{Phase}
+use Rattle.tc_sparkle_aead.specs.declared.phase.Phase.the-variants.{Uninitialized, Init, Aad, Data, Final}
+use Rattle.tc_sparkle_aead.specs.declared.aead_error.AeadError.the-variants.{CiphertextTooShort}
+use Rattle.tc_sparkle_aead.specs.declared.aead_error.AeadResult.{AeadResult}
+use Rattle.tc_sparkle_aead.specs.declared.aead_error.AeadResult.the-variants.{Ok, Err}
+use Rattle.tc_sparkle_aead.specs.declared.aead_init_error.AeadInitError.{AeadInitError}
+use Rattle.tc_sparkle_aead.specs.declared.aead_init_error.AeadInitError.the-variants.{InvalidKeyLength, InvalidNonceLength}
+use Rattle.tc_sparkle_aead.specs.declared.aead_init_error.AeadInitResult.{AeadInitResult}
+use Rattle.tc_sparkle_aead.specs.declared.aead_init_error.AeadInitResult.the-variants.{Ok as StartOk, Err as StartErr}
+use Rattle.tc_sparkle_aead.specs.declared.engine.Point.{Point}
+use Rattle.tc_sparkle_aead.specs.declared.engine.Pair.{Pair}
+use Rattle.tc_sparkle_aead.specs.declared.engine.Mac.{Mac}
+use Rattle.tc_sparkle_aead.specs.declared.engine.SparkleEngine.{SparkleEngine}
+use Rattle.tc_sparkle_aead.specs.Variant.{paramsOf}
+use Rattle.tc_sparkle_aead.specs.Checks.{opening, keep, heldIn, dataCheck, endCheck, startCheck, updateLen, totalLen, phaseCheck, then, room, whole}
+use Rattle.tc_sparkle_aead.specs.Engine.{zeros, inArray, noMessage, noMac, noPair, repeats, remember, currentKey, noSteps, newEngine}
+use Rattle.tc_sparkle_aead.specs.Calls.{stateIn, putState, heldBytes, stream, blocks, streamed, startPoint, headed, headedSteps, plainOf, finalPoint, readable}
+use Rattle.tc_sparkle_aead.proofs.VariantLaws.{Small}
+use Rattle.claims.specs.Reader.{Reader, newReader, headerPhase}
+use Rattle.claims.proofs.Points.{take-inArray, ready-zero, held-nil, blockPoint, blockPoint-nil, heldBytes-aad, heldBytes-data, state-point, blocks-point, put-point, streamed-point, given-point}
+
+-- ---- What the engine is, from what the reader keeps
+
+-- A message with a header, before its data, and in its data.
+unfoldable pub headPoint : Params → Phase → (key nonce header : List ℕ) → Point
+headPoint p phase key nonce header = blockPoint p 0 (absorbBlock p) phase (initialise p key nonce) header
+
+unfoldable pub dataPoint : Params → Direction → (key nonce header body : List ℕ) → Point
+dataPoint p d key nonce header body =
+    blockPoint p (keep p (Data d)) (messageBlock p (plainOf p (Data d))) (Data d) (prepared p key nonce header) body
+
+abbrev pub pointIn : Params → Phase → (key nonce header body : List ℕ) → Point
+pointIn p Uninitialized key nonce header body = noMessage
+pointIn p (Init d) key nonce header body = headPoint p (Init d) key nonce header
+pointIn p (Aad d) key nonce header body = headPoint p (Aad d) key nonce header
+pointIn p (Data d) key nonce header body = dataPoint p d key nonce header body
+pointIn p (Final d) key nonce header body = finalPoint d
+
+abbrev pub initialIn : Params → Phase → (key nonce initial : List ℕ) → Point
+initialIn p Uninitialized key nonce initial = noMessage
+initialIn p (Init d) key nonce initial = headPoint p (headerPhase d initial) key nonce initial
+initialIn p (Aad d) key nonce initial = headPoint p (headerPhase d initial) key nonce initial
+initialIn p (Data d) key nonce initial = headPoint p (headerPhase d initial) key nonce initial
+initialIn p (Final d) key nonce initial = headPoint p (headerPhase d initial) key nonce initial
+
+abbrev pub pairIn : Bool → (key nonce : List ℕ) → Pair
+pairIn false key nonce = noPair
+pairIn true key nonce = remember key nonce
+
+-- The steps of a message with a header of n bytes, before its data.
+unfoldable pub headCount : Params → ℕ → ℕ
+headCount p n = (p .big + leading p n * p .slim) % 2 ^ 64
+
+abbrev pub initialCount : Params → Phase → List ℕ → ℕ
+initialCount p Uninitialized initial = 0
+initialCount p (Init d) initial = headCount p (length initial)
+initialCount p (Aad d) initial = headCount p (length initial)
+initialCount p (Data d) initial = headCount p (length initial)
+initialCount p (Final d) initial = headCount p (length initial)
+
+-- The steps in the data.
+unfoldable pub dataCount : Params → Direction → (header body : List ℕ) → ℕ
+dataCount p d header body =
+    (p .big + stepsOf p (length header) + ready (p .rate) (keep p (Data d)) (length body) * p .slim) % 2 ^ 64
+
+abbrev pub engineOf : SparkleVariant → Reader → Mac → ℕ → SparkleEngine
+engineOf v r mac n =
+    record {
+      variant = v;
+      current = pointIn (paramsOf v) (r .phase) (r .key) (r .nonce) (r .header) (r .body);
+      initial = initialIn (paramsOf v) (r .phase) (r .key) (r .nonce) (r .initial);
+      pair = pairIn (r .loaded) (r .key) (r .nonce);
+      mac = mac;
+      steps = record { current = n; initial = initialCount (paramsOf v) (r .phase) (r .initial) };
+    }
+
+-- ---- What holds in a phase
+
+-- A sealing in Final was reset or has ended.
+pub data Sealed (p : Params) (key nonce initial header body : List ℕ) (mac : Mac) (n : ℕ) : Type 0 where
+  stopped : mac ≡ noMac → n ≡ headCount p (length initial) → Sealed p key nonce initial header body mac n
+  finished : mac ≡ readable (tag p key nonce header body) → n ≡ steps p (length header) (length body) % 2 ^ 64
+      → Sealed p key nonce initial header body mac n
+
+-- The tag that can be read after an opening's end.
+unfoldable pub openedMac : Params → (key nonce header packet : List ℕ) → Mac
+openedMac p key nonce header packet =
+    cond (verified p key nonce header packet)
+    (readable (tag p key nonce header (decrypt p key nonce header (bodyOf p packet)))) noMac
+
+abbrev pub Standing : Params → Phase → Bool → (key nonce initial header body : List ℕ) → Mac → ℕ → Type 0
+Standing p Uninitialized loaded key nonce initial header body mac n = (mac ≡ noMac) × (n ≡ 0)
+Standing p (Init d) loaded key nonce initial header body mac n =
+    (loaded ≡ true) × (mac ≡ noMac) × (n ≡ headCount p (length header)) × (header ≡ []) × (body ≡ [])
+Standing p (Aad d) loaded key nonce initial header body mac n =
+    (loaded ≡ true) × (mac ≡ noMac) × (n ≡ headCount p (length header)) × (0 < length header) × (body ≡ [])
+Standing p (Data d) loaded key nonce initial header body mac n =
+    (loaded ≡ true) × (mac ≡ noMac) × (n ≡ dataCount p d header body)
+Standing p (Final Encrypt) loaded key nonce initial header body mac n =
+    (loaded ≡ true) × Sealed p key nonce initial header body mac n
+Standing p (Final Decrypt) loaded key nonce initial header body mac n =
+    (loaded ≡ true) × (mac ≡ openedMac p key nonce header body)
+    × (n ≡ steps p (length header) (length body - p .key) % 2 ^ 64) × (p .key ≤ length body)
+
+-- the sizes of a loaded pair
+pub record Fits (p : Params) (key nonce : List ℕ) : Type 0 where
+  pub key-fits : length key ≡ p .key
+  pub nonce-fits : length nonce ≡ p .rate
+
+pub record Follows (v : SparkleVariant) (e : SparkleEngine) (r : Reader) : Type 0 where
+  pub mac : Mac
+  pub count : ℕ
+  pub same-engine : e ≡ engineOf v r mac count
+  pub fits : r .loaded ≡ true → Fits (paramsOf v) (r .key) (r .nonce)
+  pub standing : Standing (paramsOf v) (r .phase) (r .loaded) (r .key) (r .nonce) (r .initial) (r .header)
+      (r .body) mac count
+
+pub follows-new : (v : SparkleVariant) → Follows v (newEngine v) newReader
+unfolding newEngine noSteps
+follows-new v =
+    record {
+      mac = noMac;
+      count = 0;
+      same-engine = refl;
+      fits = λ e. absurd (let z : _≡_ {A = ℕ} 0 1 = cc in omega arith);
+      standing = (refl, refl);
+    }
+
+-- ---- The parts of a call
+
+-- steps that are added are those of the blocks together
+counted : (base a b slim : ℕ) → ((base + a * slim) % 2 ^ 64 + b * slim) % 2 ^ 64 ≡ (base + (a + b) * slim) % 2 ^ 64
+counted base a b slim =
+    mod-add-mod (base + a * slim) (2 ^ 64) (b * slim)
+    ∙ ap (λ (n : ℕ). n % 2 ^ 64) (omega (arith, add-mul a b slim))
+
+module _ (p : Params) (h : Sizes p) (m : Small p) where
+  -- the header
+  module _ (key nonce : List ℕ) where
+    begun : length (initialise p key nonce) ≡ stateLength p
+    begun = length-initialise p h key nonce
+
+    absorbed : (s b : List ℕ) → length s ≡ stateLength p → length (absorbBlock p s b) ≡ stateLength p
+    absorbed s b hs = length-absorbBlock p h s b
+
+    start-head : (d : Direction) → startPoint p d key nonce ≡ headPoint p (Init d) key nonce []
+    unfolding startPoint headPoint
+    start-head d = sym (blockPoint-nil p 0 (absorbBlock p) (Init d) (initialise p key nonce))
+
+    pub holds-init : (d : Direction) → heldBytes p (headPoint p (Init d) key nonce []) ≡ held (p .rate) 0 []
+    unfolding heldBytes headPoint blockPoint
+    holds-init d = sym (held-nil (p .rate) 0)
+
+    pub holds-aad : (d : Direction) (header : List ℕ) → heldBytes p (headPoint p (Aad d) key nonce header)
+        ≡ held (p .rate) 0 header
+    unfolding headPoint
+    holds-aad d header = heldBytes-aad p h m (absorbBlock p) d (initialise p key nonce) header
+
+    -- more header, where it is not empty
+    module _ (phase : Phase) (header : List ℕ)
+        (holds : heldBytes p (headPoint p phase key nonce header) ≡ held (p .rate) 0 header)
+        (d : Direction) (x : ℕ) (input : List ℕ) where
+      pub head-point : headed p d (headPoint p phase key nonce header) (x ∷ input)
+          ≡ headPoint p (Aad d) key nonce (header ++ (x ∷ input))
+      unfolding headed headPoint
+      head-point =
+          streamed-point p h m 0 (absorbBlock p) absorbed phase (initialise p key nonce) header begun holds (x ∷ input)
+          (Aad d)
+
+      pub head-count :
+          (headCount p (length header) + headedSteps p (headPoint p phase key nonce header) (x ∷ input)) % 2 ^ 64
+          ≡ headCount p (length (header ++ (x ∷ input)))
+      unfolding headedSteps headPoint headCount leading
+      head-count =
+          rw (
+            blocks-point p h m 0 (absorbBlock p) absorbed phase (initialise p key nonce) header begun holds (x ∷ input),
+            ready-cut (p .rate) 0 (h .rate-positive) header (x ∷ input),
+          )
+          (counted (p .big) (ready (p .rate) 0 (length header))
+          (ready (p .rate) 0 (length (held (p .rate) 0 header ++ (x ∷ input)))) (p .slim))
+
+    -- the header of a start
+    pub started-point : (d : Direction) (header : List ℕ)
+        → headed p d (startPoint p d key nonce) header ≡ headPoint p (headerPhase d header) key nonce header
+    unfolding headed
+    started-point d [] = start-head d
+    started-point d (x ∷ header) =
+        ap (λ (at : Point). headed p d at (x ∷ header)) (start-head d) ∙ head-point (Init d) [] (holds-init d) d x header
+
+    pub started-count : (d : Direction) (header : List ℕ)
+        → (p .big + headedSteps p (startPoint p d key nonce) header) % 2 ^ 64 ≡ headCount p (length header)
+    unfolding headedSteps blocks stream heldBytes startPoint headCount leading
+    started-count d header = refl
+
+    -- the header ends
+    pub begin-point-init : (d : Direction)
+        → _≡_ {A = Point}
+        (record { phase = Data d; words = headPoint p (Init d) key nonce [] .words; buffer = zeros 64; held = 0 })
+        (dataPoint p d key nonce [] [])
+    unfolding headPoint dataPoint prepared absorb ifEmpty
+    begin-point-init d =
+        ap (λ (at : Point). record { phase = Data d; words = at .words; buffer = zeros 64; held = 0 })
+        (blockPoint-nil p 0 (absorbBlock p) (Init d) (initialise p key nonce))
+        ∙ sym (blockPoint-nil p (keep p (Data d)) (messageBlock p (plainOf p (Data d))) (Data d) (initialise p key nonce))
+
+    begin-words : (d : Direction) (header : List ℕ) → 0 < length header
+        → putState p (headPoint p (Aad d) key nonce header .words)
+        (mixLast p 0 (stateIn p (headPoint p (Aad d) key nonce header .words))
+        (heldBytes p (headPoint p (Aad d) key nonce header)))
+        ≡ inArray 16 (prepared p key nonce header)
+    unfolding headPoint prepared absorb ifEmpty leading held
+    begin-words d [] some = absurd (omega arith)
+    begin-words d (x ∷ header) some =
+        let a : List ℕ = x ∷ header in
+        ap₂ (λ (s b : List ℕ). putState p (headPoint p (Aad d) key nonce a .words) (mixLast p 0 s b))
+        (state-point p h m 0 (absorbBlock p) absorbed (Aad d) (initialise p key nonce) a begun (holds-aad d a) [])
+        (holds-aad d a)
+        ∙ put-point p h m 0 (absorbBlock p) absorbed (Aad d) (initialise p key nonce) a begun (holds-aad d a) []
+        _ (length-mixLast p h 0 _ _)
+
+    pub begin-point-aad : (d : Direction) (header : List ℕ) → 0 < length header
+        → _≡_ {A = Point}
+        (record {
+          phase = Data d;
+          words =
+              putState p (headPoint p (Aad d) key nonce header .words)
+              (mixLast p 0 (stateIn p (headPoint p (Aad d) key nonce header .words))
+              (heldBytes p (headPoint p (Aad d) key nonce header)));
+          buffer = zeros 64;
+          held = 0;
+        })
+        (dataPoint p d key nonce header [])
+    unfolding dataPoint
+    begin-point-aad d header some =
+        ap (λ (w : List ℕ). record { phase = Data d; words = w; buffer = zeros 64; held = 0 }) (begin-words d header some)
+        ∙ sym (blockPoint-nil p (keep p (Data d)) (messageBlock p (plainOf p (Data d))) (Data d)
+        (prepared p key nonce header))
+
+  pub begin-count-init : (d : Direction) → (headCount p 0 + 0) % 2 ^ 64 ≡ dataCount p d [] []
+  unfolding headCount dataCount stepsOf leading
+  begin-count-init d =
+      mod-add-mod (p .big + ready (p .rate) 0 0 * p .slim) (2 ^ 64) 0
+      ∙ ap (λ (n : ℕ). n % 2 ^ 64)
+      (rw (ready-zero (p .rate) 0, ready-zero (p .rate) (keep p (Data d))) (omega arith))
+
+  pub begin-count-aad : (d : Direction) (header : List ℕ) → 0 < length header
+      → (headCount p (length header) + p .big) % 2 ^ 64 ≡ dataCount p d header []
+  unfolding headCount dataCount
+  begin-count-aad d header some =
+      mod-add-mod (p .big + leading p (length header) * p .slim) (2 ^ 64) (p .big)
+      ∙ ap (λ (n : ℕ). n % 2 ^ 64)
+      (rw (ready-zero (p .rate) (keep p (Data d)), steps-some p (length header) some) (omega arith))
+
+  -- the data
+  module _ (d : Direction) (key nonce header : List ℕ) where
+    prepared-state : length (prepared p key nonce header) ≡ stateLength p
+    prepared-state = length-prepared p h key nonce header
+
+    taken : (s b : List ℕ) → length s ≡ stateLength p → length (messageBlock p (plainOf p (Data d)) s b) ≡ stateLength p
+    taken s b hs = length-messageBlock p h (plainOf p (Data d)) s b
+
+    module _ (body : List ℕ) where
+      pub holds-data : heldBytes p (dataPoint p d key nonce header body) ≡ held (p .rate) (keep p (Data d)) body
+      unfolding dataPoint
+      holds-data = heldBytes-data p h m (messageBlock p (plainOf p (Data d))) d (prepared p key nonce header) body
+
+      pub state-data : stateIn p (dataPoint p d key nonce header body .words)
+          ≡ after (p .rate) (messageBlock p (plainOf p (Data d))) (ready (p .rate) (keep p (Data d)) (length body))
+          (prepared p key nonce header) body
+      unfolding dataPoint
+      state-data =
+          state-point p h m (keep p (Data d)) (messageBlock p (plainOf p (Data d))) taken (Data d)
+          (prepared p key nonce header) body
+          prepared-state holds-data []
+
+      module _ (input : List ℕ) where
+        pub data-point : streamed p (keep p (Data d)) (messageBlock p (plainOf p (Data d))) (Data d)
+            (dataPoint p d key nonce header body) input
+            ≡ dataPoint p d key nonce header (body ++ input)
+        unfolding dataPoint
+        data-point =
+            streamed-point p h m (keep p (Data d)) (messageBlock p (plainOf p (Data d))) taken (Data d)
+            (prepared p key nonce header) body
+            prepared-state holds-data input (Data d)
+
+        -- what is given for the data so far, and for these bytes
+        pub data-given : (out : List ℕ → List ℕ → List ℕ)
+            → given (p .rate) (messageBlock p (plainOf p (Data d))) out (ready (p .rate) (keep p (Data d)) (length body))
+            (prepared p key nonce header) body
+            ++ given (p .rate) (messageBlock p (plainOf p (Data d))) out
+            (blocks p (keep p (Data d)) (dataPoint p d key nonce header body) input)
+            (stateIn p (dataPoint p d key nonce header body .words)) (stream p (dataPoint p d key nonce header body) input)
+            ≡ given (p .rate) (messageBlock p (plainOf p (Data d))) out
+            (ready (p .rate) (keep p (Data d)) (length (body ++ input)))
+            (prepared p key nonce header) (body ++ input)
+        unfolding dataPoint
+        data-given =
+            given-point p h m (keep p (Data d)) (messageBlock p (plainOf p (Data d))) taken (Data d)
+            (prepared p key nonce header) body
+            prepared-state holds-data input
+
+        pub data-count :
+            (dataCount p d header body + blocks p (keep p (Data d))
+            (dataPoint p d key nonce header body) input * p .slim) % 2 ^ 64
+            ≡ dataCount p d header (body ++ input)
+        unfolding dataPoint dataCount
+        data-count =
+            rw (
+              blocks-point p h m (keep p (Data d)) (messageBlock p (plainOf p (Data d))) taken (Data d)
+                  (prepared p key nonce header) body
+                  prepared-state holds-data input,
+              ready-cut (p .rate) (keep p (Data d)) (h .rate-positive) body input,
+            )
+            (counted (p .big + stepsOf p (length header)) (ready (p .rate) (keep p (Data d)) (length body))
+            (ready (p .rate) (keep p (Data d)) (length (held (p .rate) (keep p (Data d)) body ++ input))) (p .slim))
+
+-- a loaded pair's key and what it repeats
+pub key-back : (p : Params) → Small p → (key nonce : List ℕ) → Fits p key nonce → currentKey p (remember key nonce) ≡ key
+unfolding currentKey remember
+key-back p m key nonce f = take-inArray 32 (p .key) key (omega arith) (f .key-fits)
+
+pub repeats-agree : (p : Params) → Small p → (loaded : Bool) (k n : List ℕ) → (loaded ≡ true → Fits p k n)
+    → (key nonce : List ℕ)
+    → repeats p (pairIn loaded k n) key nonce ≡ cond loaded (cond (same k key) (same n nonce) false) false
+unfolding repeats noPair remember
+repeats-agree p m false k n f key nonce = refl
+repeats-agree p m true k n f key nonce =
+    let g = f refl in
+    rw (take-inArray 32 (p .key) k (omega arith) (g .key-fits), take-inArray 32 (p .rate) n (omega arith) (g .nonce-fits))
+
+-- ---- The checks agree
+
+module _ (p : Params) (key nonce header body : List ℕ) where
+  -- what is held, where it counts
+  pub held-agrees : (d : Direction)
+      → dataPoint p d key nonce header body .held ≡ length body - ready (p .rate) (keep p (Data d)) (length body) * p .rate
+  unfolding dataPoint blockPoint
+  held-agrees d = length-held (p .rate) (keep p (Data d)) body
+
+  abbrev pub heldNow : Phase → ℕ
+  heldNow phase = length body - ready (p .rate) (keep p phase) (length body) * p .rate
+
+  pub data-agrees : (phase : Phase) (n a : ℕ)
+      → dataCheck p phase (pointIn p phase key nonce header body .held) n a ≡ dataCheck p phase (heldNow phase) n a
+  unfolding dataCheck updateLen
+  data-agrees Uninitialized n a = refl
+  data-agrees (Init d) n a = refl
+  data-agrees (Aad d) n a = refl
+  data-agrees (Data d) n a = ap (λ (k : ℕ). dataCheck p (Data d) k n a) (held-agrees d)
+  data-agrees (Final d) n a = refl
+
+  pub update-agrees : (phase : Phase) (n : ℕ)
+      → updateLen p phase (pointIn p phase key nonce header body .held) n ≡ updateLen p phase (heldNow phase) n
+  unfolding updateLen
+  update-agrees Uninitialized n = refl
+  update-agrees (Init d) n = refl
+  update-agrees (Aad d) n = refl
+  update-agrees (Data d) n = ap (λ (k : ℕ). updateLen p (Data d) k n) (held-agrees d)
+  update-agrees (Final d) n = refl
+
+  pub total-agrees : (phase : Phase) (n : ℕ)
+      → totalLen p phase (pointIn p phase key nonce header body .held) n ≡ totalLen p phase (heldNow phase) n
+  unfolding totalLen
+  total-agrees Uninitialized n = refl
+  total-agrees (Init d) n = refl
+  total-agrees (Aad d) n = refl
+  total-agrees (Data d) n = ap (λ (k : ℕ). totalLen p (Data d) k n) (held-agrees d)
+  total-agrees (Final d) n = refl
+
+  pub end-agrees : (phase : Phase) (a : ℕ)
+      → endCheck p phase (pointIn p phase key nonce header body .held) a ≡ endCheck p phase (heldNow phase) a
+  unfolding endCheck totalLen
+  end-agrees Uninitialized a = refl
+  end-agrees (Init d) a = refl
+  end-agrees (Aad d) a = refl
+  end-agrees (Data d) a = ap (λ (k : ℕ). endCheck p (Data d) k a) (held-agrees d)
+  end-agrees (Final d) a = refl
+
+  pub phase-agrees : (phase : Phase) → pointIn p phase key nonce header body .phase ≡ phase
+  unfolding headPoint dataPoint blockPoint noMessage finalPoint
+  phase-agrees Uninitialized = refl
+  phase-agrees (Init d) = refl
+  phase-agrees (Aad d) = refl
+  phase-agrees (Data d) = refl
+  phase-agrees (Final d) = refl
+
+-- ---- What a passed check says
+
+pub then-good : (x : AeadResult) (g : ℕ → AeadResult) (k : ℕ) → then x g ≡ Ok k → (j : ℕ) × (x ≡ Ok j) × (g j ≡ Ok k)
+then-good (Ok j) g k e = (j, refl, e)
+then-good (Err x) g k e = absurd (let z : _≡_ {A = ℕ} 0 1 = cc in omega arith)
+
+whole-good : (p : Params) (held n k : ℕ) (b : Bool) → ltb held (p .key) ≡ b
+    → _≡_ {A = AeadResult} (cond b (Err (CiphertextTooShort (p .key) held)) (Ok n)) (Ok k) → p .key ≤ held
+whole-good p held n k true t e = absurd (let z : _≡_ {A = ℕ} 0 1 = cc in omega arith)
+whole-good p held n k false t e = ltb-false held (p .key) t
+
+-- an opening that passes an end's checks holds a tag's bytes
+pub end-enough : (p : Params) (phase : Phase) (held a k : ℕ) → opening phase ≡ true → endCheck p phase held a ≡ Ok k
+    → p .key ≤ heldIn p phase held
+unfolding endCheck
+end-enough p phase held a k o e =
+    let s1 = then-good (phaseCheck phase) (λ _. then (then (totalLen p phase held 0) (room a)) (whole p phase held)) k e in
+    let s2 = then-good (then (totalLen p phase held 0) (room a)) (whole p phase held) k (s1 .2) in
+    let h = heldIn p phase held in
+    let n = s2 .0 in
+    whole-good p h n k (ltb h (p .key)) refl
+    (ap (λ (b : Bool). cond b (cond (ltb h (p .key)) (Err (CiphertextTooShort (p .key) h)) (Ok n)) (Ok n)) (sym o) ∙ s2 .2)
+
+-- a start that passes has the variant's sizes
+size-good : (a b : ℕ) (t : Bool) → eqb a b ≡ t → (x : AeadInitError) (y : AeadInitResult)
+    → cond (not t) (StartErr x) y ≡ StartOk → (a ≡ b) × (y ≡ StartOk)
+size-good a b true t x y e = (eqb-true a b t, e)
+size-good a b false t x y e = absurd (let z : _≡_ {A = ℕ} 0 1 = cc in omega arith)
+
+pub start-good : (p : Params) (d : Direction) (key nonce size : ℕ) (repeats : Bool)
+    → startCheck p d key nonce size repeats ≡ StartOk → (key ≡ p .key) × (nonce ≡ p .rate)
+unfolding startCheck
+start-good p d key nonce size repeats e =
+    let s1 = size-good key (p .key) (eqb key (p .key)) refl (InvalidKeyLength key) _ e in
+    let s2 = size-good nonce (p .rate) (eqb nonce (p .rate)) refl (InvalidNonceLength nonce) _ (s1 .1) in
+    (s1 .0, s2 .0)

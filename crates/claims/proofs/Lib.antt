@@ -1,0 +1,21 @@
+-- The proofs of the claims.
+pub mod Points
+pub mod Packets
+pub mod Kept
+pub mod Follows
+pub mod Accepted
+pub mod Written
+pub mod Whole
+pub mod Messages
+pub mod Answers
+pub mod Demand2
+pub mod Demand1
+pub mod PublicState
+pub mod Demand3
+pub mod Machine
+pub mod Rejected
+pub mod Meets
+pub mod EngineMeets
+pub mod EngineCounts
+pub mod EngineSeals
+pub mod WorkedSheet

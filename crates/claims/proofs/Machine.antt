@@ -1,0 +1,179 @@
+-- Demands 2 and 3 as predicates over anything that takes the calls: a machine. The answers, bytes and steps that are asked
+-- for are those of the plain reader, of which no machine knows.
+use mathlib.Core.Path.{_≡_}
+use mathlib.Core.Logic.{_↔_}
+use mathlib.Core.Bool.{Bool, true, false}
+use mathlib.Core.List.{List, [], _∷_, _++_, map}
+use Prim.Native.Nat.{ℕ, _+_, _-_, _*_, _%_, _^_}
+use lib.ListN.{length, take}
+use Rattle.schwaemm.specs.Blocks.{ready}
+use Rattle.schwaemm.specs.Schwaemm.{Params, verified, seal, decrypt, body, leading, stepsOf, steps}
+use Rattle.tc_sparkle_aead.specs.declared.variant.SparkleVariant.{SparkleVariant}
+use Rattle.tc_sparkle_aead.specs.declared.phase.Direction.{Direction}
+use Rattle.tc_sparkle_aead.specs.declared.phase.Direction.the-variants.{Encrypt, Decrypt}
+use Rattle.tc_sparkle_aead.specs.declared.phase.Phase.{Phase}
+use Rattle.tc_sparkle_aead.specs.declared.phase.Phase.the-variants.{Uninitialized, Init, Aad, Data, Final}
+use Rattle.tc_sparkle_aead.specs.declared.aead_error.AeadResult.{AeadResult}
+use Rattle.tc_sparkle_aead.specs.declared.aead_error.AeadResult.the-variants.{Ok, Err}
+use Rattle.tc_sparkle_aead.specs.declared.engine.SparkleEngine.{SparkleEngine}
+use Rattle.tc_sparkle_aead.specs.Variant.{paramsOf}
+use Rattle.tc_sparkle_aead.specs.Checks.{opening, keep, updateLen, totalLen, aadCheck, dataCheck, endCheck, startCheck}
+use Rattle.tc_sparkle_aead.specs.Engine.{newEngine}
+use Rattle.claims.specs.Call.{Call, Alike, Outcome, outcome, startOutcome, step, Line, line}
+use Rattle.claims.specs.Call.Outcome.{ok, no}
+use Rattle.claims.specs.Reader.{Reader, newReader, heldOf, repeated, read, verdicts, reader}
+
+-- ---- Machines
+
+-- What a machine gives for a call: its next state, the line, and the output buffer that was lent.
+pub record Reply (State : Type 0) : Type 0 where
+  pub state : State
+  pub line : Line
+  pub buffer : List ℕ
+
+pub record Machine : Type 1 where
+  pub State : Type 0
+  pub new : SparkleVariant → State
+  pub step : State → Call → Reply State
+
+-- The engine.
+abbrev pub engine : Machine
+engine =
+    record {
+      State = SparkleEngine;
+      new = newEngine;
+      step = λ e c. record { state = step e c .engine; line = line (step e c); buffer = step e c .buffer };
+    }
+
+module _ (m : Machine) where
+  -- The state after a list of calls, the lines of the list, and the bytes that its calls wrote.
+  abbrev pub after : m .State → List Call → m .State
+  after s [] = s
+  after s (c ∷ calls) = after (m .step s c .state) calls
+
+  abbrev pub linesOf : m .State → List Call → List Line
+  linesOf s [] = []
+  linesOf s (c ∷ calls) = m .step s c .line ∷ linesOf (m .step s c .state) calls
+
+  abbrev pub sheetOf : SparkleVariant → List Call → List Line
+  sheetOf v calls = linesOf (m .new v) calls
+
+-- The bytes that a call wrote: as many as it counts.
+abbrev pub wrote : Outcome → List ℕ → List ℕ
+wrote (ok n) buffer = take n buffer
+wrote (no r) buffer = []
+
+abbrev pub bytesOf : (m : Machine) → m .State → List Call → List ℕ
+bytesOf m s [] = []
+bytesOf m s (c ∷ calls) = wrote (m .step s c .line .outcome) (m .step s c .buffer) ++ bytesOf m (m .step s c .state) calls
+
+-- ---- Demand 2
+
+-- The outcome that document 01's tables give to a call, over what the reader keeps; mac is not refused.
+abbrev pub openOutcome : Bool → ℕ → Outcome
+openOutcome true n = ok n
+openOutcome false n = no (6 ∷ [])
+
+abbrev pub endOutcome : AeadResult → Bool → Bool → Outcome
+endOutcome (Err x) opens right = outcome (Err x)
+endOutcome (Ok n) true right = openOutcome right n
+endOutcome (Ok n) false right = ok n
+
+unfoldable pub expected : Params → Reader → Call → Outcome
+expected p r (Call.start d key nonce size header) =
+    startOutcome (startCheck p d (length key) (length nonce) size (repeated r key nonce))
+expected p r (Call.header input) = outcome (aadCheck (r .phase) (length input))
+expected p r (Call.message input out) = outcome (dataCheck p (r .phase) (heldOf p r) (length input) (length out))
+expected p r (Call.end out) =
+    endOutcome (endCheck p (r .phase) (heldOf p r) (length out)) (opening (r .phase))
+    (verified p (r .key) (r .nonce) (r .header) (r .body))
+expected p r Call.reset = ok 0
+expected p r Call.tag = ok 0
+expected p r (Call.update n) = outcome (updateLen p (r .phase) (heldOf p r) n)
+expected p r (Call.output n) = outcome (totalLen p (r .phase) (heldOf p r) n)
+
+-- The steps that document 01's formula gives after a call, from the reader before and after it and the count before it:
+-- big, plus for the header and for the message what has run.
+abbrev pub startSteps : Params → ℕ → ℕ
+startSteps p header = (p .big + leading p header * p .slim) % 2 ^ 64
+
+abbrev pub messageLength : Direction → Params → ℕ → ℕ
+messageLength Encrypt p n = n
+messageLength Decrypt p n = n - p .key
+
+abbrev pub endSteps : Phase → Params → ℕ → Direction → Reader → ℕ
+endSteps Uninitialized p before d r = before
+endSteps (Init _) p before d r = steps p (length (r .header)) (messageLength d p (length (r .body))) % 2 ^ 64
+endSteps (Aad _) p before d r = steps p (length (r .header)) (messageLength d p (length (r .body))) % 2 ^ 64
+endSteps (Data _) p before d r = steps p (length (r .header)) (messageLength d p (length (r .body))) % 2 ^ 64
+endSteps (Final _) p before d r = before
+
+abbrev pub finalSteps : Call → Phase → Params → ℕ → Direction → Reader → ℕ
+finalSteps (Call.start _ key nonce size header) phase p before d r = before
+finalSteps (Call.header input) phase p before d r = before
+finalSteps (Call.message input out) phase p before d r = before
+finalSteps (Call.end out) phase p before d r = endSteps phase p before d r
+finalSteps Call.reset phase p before d r = startSteps p (length (r .initial))
+finalSteps Call.tag phase p before d r = before
+finalSteps (Call.update n) phase p before d r = before
+finalSteps (Call.output n) phase p before d r = before
+
+abbrev pub stepsIn : Phase → Phase → Params → ℕ → Call → Reader → ℕ
+stepsIn Uninitialized old p before c r = 0
+stepsIn (Init d) old p before c r = startSteps p 0
+stepsIn (Aad d) old p before c r = startSteps p (length (r .header))
+stepsIn (Data d) old p before c r =
+    (p .big + stepsOf p (length (r .header)) + ready (p .rate) (keep p (Data d)) (length (r .body)) * p .slim) % 2 ^ 64
+stepsIn (Final d) old p before c r = finalSteps c old p before d r
+
+unfoldable pub counts : Params → Reader → ℕ → List Call → List ℕ
+counts p r before [] = []
+counts p r before (c ∷ calls) =
+    let q = read p r c .reader in
+    let n = stepsIn (q .phase) (r .phase) p before c q in
+    n ∷ counts p q n calls
+
+-- A message: a start, data calls, each with its input and its output, and the end.
+pub record Piece : Type 0 where
+  pub input : List ℕ
+  pub out : List ℕ
+
+abbrev pub dataCalls : List Piece → List ℕ → List Call
+dataCalls [] out = Call.end out ∷ []
+dataCalls (x ∷ pieces) out = Call.message (x .input) (x .out) ∷ dataCalls pieces out
+
+abbrev pub messageOf : List Piece → List ℕ
+messageOf [] = []
+messageOf (x ∷ pieces) = x .input ++ messageOf pieces
+
+abbrev pub messageCalls : Direction → (key nonce header : List ℕ) (size : ℕ) → List Piece → List ℕ → List Call
+messageCalls d key nonce header size pieces out = Call.start d key nonce size header ∷ dataCalls pieces out
+
+pub data AllOk : List Line → Type 0 where
+  none : AllOk []
+  more : {l : Line} {rest : List Line} (n : ℕ) → l .outcome ≡ ok n → AllOk rest → AllOk (l ∷ rest)
+
+pub record Demand2 (m : Machine) : Type 0 where
+  -- every call after every list is answered as the tables say
+  pub answers : (v : SparkleVariant) (before : List Call) (c : Call) → (c ≡ Call.tag → ⊥)
+      → m .step (after m (m .new v) before) c .line .outcome ≡ expected (paramsOf v) (reader v before) c
+  -- however the data is cut, a sealing without refusal writes what the specification gives
+  pub seals : (v : SparkleVariant) (key nonce header : List ℕ) (size : ℕ) (pieces : List Piece) (out : List ℕ)
+      → AllOk (sheetOf m v (messageCalls Encrypt key nonce header size pieces out))
+      → bytesOf m (m .new v) (messageCalls Encrypt key nonce header size pieces out)
+      ≡ seal (paramsOf v) key nonce header (messageOf pieces)
+  -- and an opening what the packet, without its tag, decrypts to
+  pub opens : (v : SparkleVariant) (key nonce header : List ℕ) (size : ℕ) (pieces : List Piece) (out : List ℕ)
+      → AllOk (sheetOf m v (messageCalls Decrypt key nonce header size pieces out))
+      → bytesOf m (m .new v) (messageCalls Decrypt key nonce header size pieces out)
+      ≡ decrypt (paramsOf v) key nonce header (body (paramsOf v) (messageOf pieces))
+  -- the steps of every line are the formula's
+  pub counted : (v : SparkleVariant) (calls : List Call)
+      → map (λ (l : Line). l .steps) (sheetOf m v calls) ≡ counts (paramsOf v) newReader 0 calls
+
+-- ---- Demand 3
+
+abbrev pub Demand3 : Machine → Type 0
+Demand3 m =
+    (v : SparkleVariant) (xs ys : List Call) → Alike xs ys
+    → (sheetOf m v xs ≡ sheetOf m v ys) ↔ (verdicts v xs ≡ verdicts v ys)

@@ -1,0 +1,787 @@
+-- Whole messages with room: start, header calls, data calls and end are accepted, and write the specification's bytes.
+use mathlib.Core.Path.{_≡_, refl, sym, ap, ap₂, subst, _∙_}
+use mathlib.Core.Bool.{Bool, true, false, cond}
+use mathlib.Core.List.{List, [], _∷_, _++_, append-assoc, append-nil}
+use Prim.Native.Nat.{ℕ, _+_, _-_, _*_, _%_, _^_, _≤_, _<_}
+use native.Mathlib.Nat.{div-mul-le-self}
+use native.Mathlib.Omega.{arith}
+use borrow.Author.Tests.{le-ltb}
+use lib.Dec.{ltb}
+use lib.ListN.{length, drop, length-append}
+use Rattle.schwaemm.specs.Blocks.{ready}
+use Rattle.schwaemm.specs.Schwaemm.{Params, Sizes, decrypt, seal, tag, steps, body as bodyOf, verified}
+use Rattle.schwaemm.proofs.Cut.{ready-bound}
+use Rattle.schwaemm.proofs.RoundTrip.{verified-seal, body-seal, decrypt-encrypt, length-seal, length-decrypt}
+use Rattle.tc_sparkle_aead.specs.declared.variant.SparkleVariant.{SparkleVariant}
+use Rattle.tc_sparkle_aead.specs.declared.phase.Direction.{Direction}
+use Rattle.tc_sparkle_aead.specs.declared.phase.Direction.the-variants.{Encrypt, Decrypt}
+use Rattle.tc_sparkle_aead.specs.declared.phase.Phase.{Phase}
+use Rattle.tc_sparkle_aead.specs.declared.phase.Phase.the-variants.{Uninitialized, Init, Aad, Data, Final}
+use Rattle.tc_sparkle_aead.specs.declared.aead_error.AeadResult.{AeadResult}
+use Rattle.tc_sparkle_aead.specs.declared.aead_error.AeadResult.the-variants.{Ok, Err}
+use Rattle.tc_sparkle_aead.specs.declared.aead_init_error.AeadInitError.the-variants.{NonceReuse}
+use Rattle.tc_sparkle_aead.specs.declared.aead_init_error.AeadInitResult.the-variants.{Ok as StartOk, Err as StartErr}
+use Rattle.tc_sparkle_aead.specs.declared.engine.Mac.{Mac}
+use Rattle.tc_sparkle_aead.specs.declared.engine.SparkleEngine.{SparkleEngine}
+use Rattle.tc_sparkle_aead.specs.Variant.{paramsOf}
+use Rattle.tc_sparkle_aead.specs.Checks.{opening, keep, heldIn, then, phaseCheck, updateLen, totalLen, room, whole, aadCheck, headerCheck, dataCheck, endCheck}
+use Rattle.tc_sparkle_aead.specs.Engine.{zeros, noMac, updateOutputLen, outputLen}
+use Rattle.tc_sparkle_aead.specs.Calls.{aadBy, processAadBytes, readable, macOf, stepsNow}
+use Rattle.tc_sparkle_aead.proofs.VariantLaws.{sizes, small, keep-bound}
+use Rattle.tc_sparkle_aead.proofs.CheckLaws.{updateLen-fits, totalLen-opening, totalLen-sealing, startCheck-opening, startCheck-sealing}
+use Rattle.claims.specs.Call.{Call, step, runFrom, run, Outcome, outcome, startOutcome}
+use Rattle.claims.specs.Reader.{Reader, heldOf, headerPhase, repeated, aadPhase, readHeader, readMessage, read, readFrom, reader}
+use Rattle.claims.proofs.Packets.{length-body}
+use Rattle.claims.proofs.Kept.{Follows, Standing, engineOf}
+use Rattle.claims.proofs.Follows.{Takes, kept, follows-step, follows-from, follows-run, aad-some, header-answer, update-answer, total-answer}
+use Rattle.claims.proofs.Accepted.{within-good, total-good, takes-opening}
+use Rattle.claims.proofs.Written.{outcome-ok, messageOf, end-ended, message-outcome, seal-end, open-end}
+use Rattle.claims.proofs.Whole.{headerIn, dataOf, countOf, takes-message, outputs, Between, Betweens, Each, Going, startedReader, start-outcome, begunEngine, lastReader, begun-follows, last-follows, last-going, sealed-taken, opened-taken}
+
+-- ---- Header calls and data calls, with queries and mac between them
+
+abbrev pub HeaderCall : Call → Type 0
+HeaderCall (Call.start d key nonce size h) = ⊥
+HeaderCall (Call.header input) = Unit {0}
+HeaderCall (Call.message input out) = ⊥
+HeaderCall (Call.end out) = ⊥
+HeaderCall Call.reset = ⊥
+HeaderCall Call.tag = Unit {0}
+HeaderCall (Call.update n) = Unit {0}
+HeaderCall (Call.output n) = Unit {0}
+
+abbrev pub DataCall : Call → Type 0
+DataCall (Call.start d key nonce size h) = ⊥
+DataCall (Call.header input) = ⊥
+DataCall (Call.message input out) = Unit {0}
+DataCall (Call.end out) = ⊥
+DataCall Call.reset = ⊥
+DataCall Call.tag = Unit {0}
+DataCall (Call.update n) = Unit {0}
+DataCall (Call.output n) = Unit {0}
+
+-- What the header calls and the data calls of a list bring.
+abbrev pub headers : List Call → List ℕ
+headers [] = []
+headers (c ∷ calls) = headerIn c ++ headers calls
+
+abbrev pub datas : List Call → List ℕ
+datas [] = []
+datas (c ∷ calls) = dataOf c ++ datas calls
+
+-- ---- Room and acceptance
+
+-- An output has at least the length that the query answers.
+abbrev pub RoomFor : SparkleEngine → Call → Type 0
+RoomFor e (Call.start d key nonce size h) = Unit {0}
+RoomFor e (Call.header input) = Unit {0}
+RoomFor e (Call.message input out) = (n : ℕ) → step e (Call.update (length input)) .outcome ≡ Outcome.ok n → n ≤ length out
+RoomFor e (Call.end out) = (n : ℕ) → step e (Call.output 0) .outcome ≡ Outcome.ok n → n ≤ length out
+RoomFor e Call.reset = Unit {0}
+RoomFor e Call.tag = Unit {0}
+RoomFor e (Call.update n) = Unit {0}
+RoomFor e (Call.output n) = Unit {0}
+
+abbrev pub Rooms : SparkleEngine → List Call → Type 0
+Rooms e [] = Unit {0}
+Rooms e (c ∷ calls) = RoomFor e c × Rooms (step e c .engine) calls
+
+-- A call is accepted; of a query nothing is asked.
+abbrev pub Taken : Call → Outcome → Type 0
+Taken (Call.start d key nonce size h) o = (n : ℕ) × (o ≡ Outcome.ok n)
+Taken (Call.header input) o = (n : ℕ) × (o ≡ Outcome.ok n)
+Taken (Call.message input out) o = (n : ℕ) × (o ≡ Outcome.ok n)
+Taken (Call.end out) o = (n : ℕ) × (o ≡ Outcome.ok n)
+Taken Call.reset o = (n : ℕ) × (o ≡ Outcome.ok n)
+Taken Call.tag o = (n : ℕ) × (o ≡ Outcome.ok n)
+Taken (Call.update k) o = Unit {0}
+Taken (Call.output k) o = Unit {0}
+
+abbrev pub Accepts : SparkleEngine → List Call → Type 0
+Accepts e [] = Unit {0}
+Accepts e (c ∷ calls) = Taken c (step e c .outcome) × Accepts (step e c .engine) calls
+
+-- Ample outputs have room, whatever the engine: at most 64 bytes are held, and a tag has at most 32.
+abbrev pub Ample : Call → Type 0
+Ample (Call.start d key nonce size h) = Unit {0}
+Ample (Call.header input) = Unit {0}
+Ample (Call.message input out) = length input + 64 ≤ length out
+Ample (Call.end out) = 96 ≤ length out
+Ample Call.reset = Unit {0}
+Ample Call.tag = Unit {0}
+Ample (Call.update n) = Unit {0}
+Ample (Call.output n) = Unit {0}
+
+rooms-append : (e : SparkleEngine) (xs ys : List Call) → Rooms e (xs ++ ys) → Rooms e xs × Rooms (runFrom e xs) ys
+unfolding runFrom
+rooms-append e [] ys r = (tt, r)
+rooms-append e (c ∷ xs) ys r =
+    let q = rooms-append (step e c .engine) xs ys (r .1) in ((r .0, q .0), q .1)
+
+accepts-append : (e : SparkleEngine) (xs ys : List Call) → Accepts e xs → Accepts (runFrom e xs) ys → Accepts e (xs ++ ys)
+unfolding runFrom
+accepts-append e [] ys a b = b
+accepts-append e (c ∷ xs) ys a b = (a .0, accepts-append (step e c .engine) xs ys (a .1) b)
+
+header-between : (e : SparkleEngine) (c : Call) → HeaderCall c → Between e c
+header-between e (Call.start d key nonce size h) b = b
+header-between e (Call.header input) b = b
+header-between e (Call.message input out) b = tt
+header-between e (Call.end out) b = absurd b
+header-between e Call.reset b = b
+header-between e Call.tag b = b
+header-between e (Call.update n) b = b
+header-between e (Call.output n) b = b
+
+data-between : (e : SparkleEngine) (c : Call) → DataCall c → Between e c
+data-between e (Call.start d key nonce size h) b = b
+data-between e (Call.header input) b = tt
+data-between e (Call.message input out) b = b
+data-between e (Call.end out) b = absurd b
+data-between e Call.reset b = b
+data-between e Call.tag b = b
+data-between e (Call.update n) b = b
+data-between e (Call.output n) b = b
+
+datas-between : (e : SparkleEngine) (ms : List Call) → Each DataCall ms → Betweens e ms
+datas-between e [] b = tt
+datas-between e (c ∷ ms) b = (data-between e c (b .0), datas-between (step e c .engine) ms (b .1))
+
+all-between : (e : SparkleEngine) (hs ms : List Call) → Each HeaderCall hs → Each DataCall ms → Betweens e (hs ++ ms)
+all-between e [] ms bh bm = datas-between e ms bm
+all-between e (c ∷ hs) ms bh bm = (header-between e c (bh .0), all-between (step e c .engine) hs ms (bh .1) bm)
+
+-- ---- The header
+
+-- the phases before the data
+data Heading (d : Direction) : Phase → Type 0 where
+  heading-init : Heading d (Init d)
+  heading-aad : Heading d (Aad d)
+
+heading-check : {d : Direction} {phase : Phase} → Heading d phase → headerCheck phase ≡ Ok 0
+heading-check heading-init = refl
+heading-check heading-aad = refl
+
+heading-more : {d : Direction} {phase : Phase} → Heading d phase → (input : List ℕ) → Heading d (aadPhase phase input)
+heading-more t [] = t
+heading-more heading-init (x ∷ input) = heading-aad
+heading-more heading-aad (x ∷ input) = heading-aad
+
+aad-passes : {d : Direction} {phase : Phase} → Heading d phase → (input : List ℕ) → aadCheck phase (length input) ≡ Ok 0
+unfolding aadCheck
+aad-passes t [] = refl
+aad-passes {phase = phase} t (x ∷ input) = aad-some phase (length input) ∙ heading-check t
+
+aad-answered : (k : AeadResult) (e : SparkleEngine) (input : List ℕ) → k ≡ Ok 0 → aadBy k e input .answer ≡ Ok 0
+aad-answered (Ok n) e [] h = refl
+aad-answered (Ok n) e (x ∷ input) h = refl
+aad-answered (Err x) e input h = h
+
+header-taken : (v : SparkleVariant) (e : SparkleEngine) (r : Reader) → Follows v e r → {d : Direction} → Heading d (r .phase)
+    → (input : List ℕ)
+    → step e (Call.header input) .outcome ≡ Outcome.ok 0
+unfolding step processAadBytes
+header-taken v e r w t input =
+    let K = engineOf v r (w .mac) (w .count) in
+    ap (λ (x : SparkleEngine). outcome (aadBy (aadCheck (x .current .phase) (length input)) x input .answer))
+    (w .same-engine)
+    ∙ ap outcome (aad-answered (aadCheck (K .current .phase) (length input)) K input
+    (header-answer v r (w .mac) (w .count) (length input) ∙ aad-passes t input))
+
+-- what header calls leave
+record Headed (v : SparkleVariant) (d : Direction) (e : SparkleEngine) (r : Reader) (calls : List Call) : Type 0 where
+  taken : Accepts e calls
+  heading : Heading d (readFrom (paramsOf v) r calls .phase)
+  header-is : readFrom (paramsOf v) r calls .header ≡ r .header ++ headers calls
+  body-is : readFrom (paramsOf v) r calls .body ≡ r .body
+
+-- one call more
+headed-more : (v : SparkleVariant) (d : Direction) (e : SparkleEngine) (r : Reader) (c : Call) (calls : List Call)
+    → Taken c (step e c .outcome) → read (paramsOf v) r c .reader .header ≡ r .header ++ headerIn c
+    → read (paramsOf v) r c .reader .body ≡ r .body
+    → Headed v d (step e c .engine) (read (paramsOf v) r c .reader) calls → Headed v d e r (c ∷ calls)
+unfolding readFrom
+headed-more v d e r c calls t h b q =
+    record {
+      taken = (t, q .taken);
+      heading = q .heading;
+      header-is =
+          q .header-is ∙ ap (λ (l : List ℕ). l ++ headers calls) h ∙ append-assoc (r .header) (headerIn c) (headers calls);
+      body-is = q .body-is ∙ b;
+    }
+
+header-read : (v : SparkleVariant) (r : Reader) {d : Direction} → Heading d (r .phase) → (input : List ℕ)
+    → read (paramsOf v) r (Call.header input) .reader
+    ≡ kept (r .loaded) (r .key) (r .nonce) (r .initial) (aadPhase (r .phase) input) (r .header ++ input) (r .body)
+unfolding read
+header-read v r t input = ap (λ (k : AeadResult). readHeader k r input .reader) (aad-passes t input)
+
+headers-taken : (v : SparkleVariant) (d : Direction) (e : SparkleEngine) (r : Reader) → Follows v e r → Heading d (r .phase)
+    → (calls : List Call) → Each HeaderCall calls → Headed v d e r calls
+unfolding step read readFrom
+headers-taken v d e r w t [] b =
+    record { taken = tt; heading = t; header-is = sym (append-nil (r .header)); body-is = refl }
+headers-taken v d e r w t (Call.start d' key nonce size h ∷ calls) b = absurd (b .0)
+headers-taken v d e r w t (Call.header input ∷ calls) b =
+    let is = header-read v r t input in
+    let t' : Heading d (read (paramsOf v) r (Call.header input) .reader .phase) =
+    subst (λ (x : Reader). Heading d (x .phase)) (sym is) (heading-more t input) in
+    headed-more v d e r (Call.header input) calls (0, header-taken v e r w t input) (ap (λ (x : Reader). x .header) is)
+    (ap (λ (x : Reader). x .body) is)
+    (headers-taken v d (step e (Call.header input) .engine) (read (paramsOf v) r (Call.header input) .reader)
+    (follows-step v e r w (Call.header input)) t' calls (b .1))
+headers-taken v d e r w t (Call.message input out ∷ calls) b = absurd (b .0)
+headers-taken v d e r w t (Call.end out ∷ calls) b = absurd (b .0)
+headers-taken v d e r w t (Call.reset ∷ calls) b = absurd (b .0)
+headers-taken v d e r w t (Call.tag ∷ calls) b =
+    headed-more v d e r Call.tag calls (countOf (step e Call.tag .outcome), refl) (sym (append-nil (r .header))) refl
+    (headers-taken v d e r w t calls (b .1))
+headers-taken v d e r w t (Call.update n ∷ calls) b =
+    headed-more v d e r (Call.update n) calls tt (sym (append-nil (r .header))) refl (headers-taken v d e r w t calls (b .1))
+headers-taken v d e r w t (Call.output n ∷ calls) b =
+    headed-more v d e r (Call.output n) calls tt (sym (append-nil (r .header))) refl (headers-taken v d e r w t calls (b .1))
+
+-- ---- The data
+
+takes-check : {d : Direction} {phase : Phase} → Takes d phase → phaseCheck phase ≡ Ok 0
+takes-check Takes.takes-init = refl
+takes-check Takes.takes-aad = refl
+takes-check Takes.takes-data = refl
+
+-- no more is held than has come, and at most a block and what is kept
+held-came : (p : Params) (phase : Phase) (held : ℕ) → heldIn p phase held ≤ held
+held-came p Uninitialized held = omega arith
+held-came p (Init d) held = omega arith
+held-came p (Aad d) held = omega arith
+held-came p (Data d) held = omega arith
+held-came p (Final d) held = omega arith
+
+held-bound : (p : Params) (phase : Phase) (held : ℕ) → heldIn p phase held ≤ keep p phase + p .rate
+held-bound p Uninitialized held = omega arith
+held-bound p (Init d) held = omega arith
+held-bound p (Aad d) held = omega arith
+held-bound p (Data d) held = omega arith
+held-bound p (Final d) held = omega arith
+
+room-enough : (a n : ℕ) → n ≤ a → room a n ≡ Ok n
+room-enough a n h = rw (le-ltb a n h)
+
+data-passes : (p : Params) {d : Direction} {phase : Phase} → Takes d phase → (held k a n : ℕ) → updateLen p phase held k
+    ≡ Ok n → n ≤ a
+    → dataCheck p phase held k a ≡ Ok n
+unfolding dataCheck
+data-passes p {phase = phase} t held k a n u h =
+    ap (λ (x : AeadResult). then x (λ _. then (updateLen p phase held k) (room a))) (takes-check t)
+    ∙ ap (λ (x : AeadResult). then x (room a)) u ∙ room-enough a n h
+
+pub update-outcome : (v : SparkleVariant) (e : SparkleEngine) (r : Reader) → Follows v e r → (k : ℕ)
+    → step e (Call.update k) .outcome ≡ outcome (updateLen (paramsOf v) (r .phase) (heldOf (paramsOf v) r) k)
+unfolding step
+update-outcome v e r w k =
+    ap (λ (x : SparkleEngine). outcome (updateOutputLen x k)) (w .same-engine) ∙ ap outcome
+    (update-answer v r (w .mac) (w .count) k)
+
+pub total-outcome : (v : SparkleVariant) (e : SparkleEngine) (r : Reader) → Follows v e r → (k : ℕ)
+    → step e (Call.output k) .outcome ≡ outcome (totalLen (paramsOf v) (r .phase) (heldOf (paramsOf v) r) k)
+unfolding step
+total-outcome v e r w k =
+    ap (λ (x : SparkleEngine). outcome (outputLen x k)) (w .same-engine) ∙ ap outcome
+    (total-answer v r (w .mac) (w .count) k)
+
+update-small : (v : SparkleVariant) (phase : Phase) (held n k : ℕ) → updateLen (paramsOf v) phase held n ≡ Ok k → k ≤ n + 64
+unfolding updateLen
+update-small v phase held n k e =
+    let p = paramsOf v in
+    let h = heldIn p phase held in
+    let m = ready (p .rate) (keep p phase) (h + n) * p .rate in
+    omega (
+      arith,
+      within-good (h + n) m k (ltb (h + n) (2 ^ 64)) refl e,
+      ready-bound (p .rate) (keep p phase) (h + n),
+      held-bound p phase held,
+      keep-bound p phase,
+      small v .rate,
+      small v .key,
+    )
+
+pick-small : (b : Bool) (h t : ℕ) → cond b (h - t) (h + t) ≤ h + t
+pick-small true h t = omega arith
+pick-small false h t = omega arith
+
+total-small : (v : SparkleVariant) (phase : Phase) (held k : ℕ) → totalLen (paramsOf v) phase held 0 ≡ Ok k → k ≤ 96
+unfolding totalLen
+total-small v phase held k e =
+    let p = paramsOf v in
+    let h = heldIn p phase held in
+    omega (
+      arith,
+      total-good p h k (opening phase) e,
+      pick-small (opening phase) h (p .key),
+      held-bound p phase held,
+      keep-bound p phase,
+      small v .rate,
+      small v .key,
+    )
+
+room-ample : (e : SparkleEngine) (c : Call) → Ample c → RoomFor e c
+unfolding step updateOutputLen outputLen
+room-ample e (Call.start d key nonce size h) a = tt
+room-ample e (Call.header input) a = tt
+room-ample e (Call.message input out) a =
+    λ n o. omega (
+      arith,
+      update-small (e .variant) (e .current .phase) (e .current .held) (length input) n
+          (outcome-ok _ n o),
+    )
+room-ample e (Call.end out) a =
+    λ n o. omega (arith, total-small (e .variant) (e .current .phase) (e .current .held) n (outcome-ok _ n o))
+room-ample e Call.reset a = tt
+room-ample e Call.tag a = tt
+room-ample e (Call.update n) a = tt
+room-ample e (Call.output n) a = tt
+
+pub rooms-ample : (e : SparkleEngine) (calls : List Call) → Each Ample calls → Rooms e calls
+rooms-ample e [] a = tt
+rooms-ample e (c ∷ calls) a = (room-ample e c (a .0), rooms-ample (step e c .engine) calls (a .1))
+
+-- what a data call with room answers
+message-passes : (v : SparkleVariant) (e : SparkleEngine) (r : Reader) → Follows v e r → {d : Direction} → Takes d (r .phase)
+    → (input out : List ℕ) → length (r .body) + length input < 2 ^ 64 → RoomFor e (Call.message input out)
+    → (n : ℕ) × (dataCheck (paramsOf v) (r .phase) (heldOf (paramsOf v) r) (length input) (length out) ≡ Ok n)
+message-passes v e r w t input out short enough =
+    let p = paramsOf v in
+    let k = length input in
+    let h = heldOf p r in
+    let n = ready (p .rate) (keep p (r .phase)) (heldIn p (r .phase) h + k) * p .rate in
+    let u : updateLen p (r .phase) h k ≡ Ok n = updateLen-fits p (r .phase) h k (omega (arith, held-came p (r .phase) h)) in
+    (n, data-passes p t h k (length out) n u (enough n (update-outcome v e r w k ∙ ap outcome u)))
+
+-- what data calls leave
+record Carried (v : SparkleVariant) (e : SparkleEngine) (r : Reader) (calls : List Call) : Type 0 where
+  taken : Accepts e calls
+  header-is : readFrom (paramsOf v) r calls .header ≡ r .header
+  body-is : readFrom (paramsOf v) r calls .body ≡ r .body ++ datas calls
+
+carried-more : (v : SparkleVariant) (e : SparkleEngine) (r : Reader) (c : Call) (calls : List Call)
+    → Taken c (step e c .outcome) → read (paramsOf v) r c .reader .header ≡ r .header
+    → read (paramsOf v) r c .reader .body ≡ r .body ++ dataOf c
+    → Carried v (step e c .engine) (read (paramsOf v) r c .reader) calls → Carried v e r (c ∷ calls)
+unfolding readFrom
+carried-more v e r c calls t h b q =
+    record {
+      taken = (t, q .taken);
+      header-is = q .header-is ∙ h;
+      body-is = q .body-is ∙ ap (λ (l : List ℕ). l ++ datas calls) b ∙ append-assoc (r .body) (dataOf c) (datas calls);
+    }
+
+datas-taken : (v : SparkleVariant) (d : Direction) (e : SparkleEngine) (r : Reader) → Follows v e r → Takes d (r .phase)
+    → (calls : List Call) → Each DataCall calls → length (r .body) + length (datas calls) < 2 ^ 64 → Rooms e calls
+    → Carried v e r calls
+unfolding step read readFrom
+datas-taken v d e r w t [] b short rooms = record { taken = tt; header-is = refl; body-is = sym (append-nil (r .body)) }
+datas-taken v d e r w t (Call.start d' key nonce size h ∷ calls) b short rooms = absurd (b .0)
+datas-taken v d e r w t (Call.header input ∷ calls) b short rooms = absurd (b .0)
+datas-taken v d e r w t (Call.message input out ∷ calls) b short rooms =
+    let l = length-append input (datas calls) in
+    let q = message-passes v e r w t input out (omega arith) (rooms .0) in
+    let is = ap (λ (k : AeadResult). readMessage k r input .reader) (q .1) in
+    let t' : Takes d (read (paramsOf v) r (Call.message input out) .reader .phase) =
+    subst (λ (x : Reader). Takes d (x .phase)) (sym is) (takes-message t) in
+    let body-is : read (paramsOf v) r (Call.message input out) .reader .body ≡ r .body ++ input =
+    ap (λ (x : Reader). x .body) is in
+    carried-more v e r (Call.message input out) calls
+    (q .0, message-outcome v e r w input out ∙ ap outcome (q .1)) (ap (λ (x : Reader). x .header) is) body-is
+    (datas-taken v d (step e (Call.message input out) .engine) (read (paramsOf v) r (Call.message input out) .reader)
+    (follows-step v e r w (Call.message input out)) t' calls (b .1)
+    (omega (arith, ap length body-is, length-append (r .body) input)) (rooms .1))
+datas-taken v d e r w t (Call.end out ∷ calls) b short rooms = absurd (b .0)
+datas-taken v d e r w t (Call.reset ∷ calls) b short rooms = absurd (b .0)
+datas-taken v d e r w t (Call.tag ∷ calls) b short rooms =
+    carried-more v e r Call.tag calls (countOf (step e Call.tag .outcome), refl) refl (sym (append-nil (r .body)))
+    (datas-taken v d e r w t calls (b .1) short (rooms .1))
+datas-taken v d e r w t (Call.update n ∷ calls) b short rooms =
+    carried-more v e r (Call.update n) calls tt refl (sym (append-nil (r .body)))
+    (datas-taken v d e r w t calls (b .1) short (rooms .1))
+datas-taken v d e r w t (Call.output n ∷ calls) b short rooms =
+    carried-more v e r (Call.output n) calls tt refl (sym (append-nil (r .body)))
+    (datas-taken v d e r w t calls (b .1) short (rooms .1))
+
+-- ---- The end
+
+end-passes : (p : Params) {d : Direction} {phase : Phase} → Takes d phase → (held a n : ℕ) → totalLen p phase held 0 ≡ Ok n
+    → n ≤ a
+    → whole p phase held n ≡ Ok n → endCheck p phase held a ≡ Ok n
+unfolding endCheck
+end-passes p {phase = phase} t held a n u h q =
+    ap (λ (x : AeadResult). then x (λ _. then (then (totalLen p phase held 0) (room a)) (whole p phase held)))
+    (takes-check t)
+    ∙ ap (λ (x : AeadResult). then (then x (room a)) (whole p phase held)) u
+    ∙ ap (λ (x : AeadResult). then x (whole p phase held)) (room-enough a n h) ∙ q
+
+seal-passes : (v : SparkleVariant) (e : SparkleEngine) (r : Reader) → Follows v e r → Takes Encrypt (r .phase)
+    → (out : List ℕ)
+    → RoomFor e (Call.end out) → (n : ℕ) × (endCheck (paramsOf v) (r .phase) (heldOf (paramsOf v) r) (length out) ≡ Ok n)
+seal-passes v e r w t out enough =
+    let p = paramsOf v in
+    let h = heldOf p r in
+    let n = heldIn p (r .phase) h + 0 + p .key in
+    let u : totalLen p (r .phase) h 0 ≡ Ok n =
+    totalLen-sealing p (r .phase) h 0 (takes-opening t)
+    (omega (arith, held-bound p (r .phase) h, keep-bound p (r .phase), small v .rate, small v .key)) in
+    (n, end-passes p t h (length out) n u (enough n (total-outcome v e r w 0 ∙ ap outcome u)) (rw (takes-opening t)))
+
+whole-open : (p : Params) (phase : Phase) (held n : ℕ) → opening phase ≡ true → p .key ≤ heldIn p phase held
+    → whole p phase held n ≡ Ok n
+whole-open p phase held n o k = rw (o, le-ltb (heldIn p phase held) (p .key) k)
+
+-- an opening with a tag's bytes holds them
+rest-tag : (rate keep n : ℕ) → keep ≤ n → keep ≤ n - ready rate keep n * rate
+unfolding ready
+rest-tag rate keep n h = omega (arith, div-mul-le-self (n - (keep + 1)) rate)
+
+takes-held : (p : Params) → Sizes p → {phase : Phase} → Takes Decrypt phase
+    → (loaded : Bool) (key nonce initial header body : List ℕ) (mac : Mac) (c : ℕ)
+    → Standing p phase loaded key nonce initial header body mac c → p .key ≤ length body
+    → p .key ≤ heldIn p phase (heldOf p (kept loaded key nonce initial phase header body))
+takes-held p s Takes.takes-init loaded key nonce initial header body mac c st enough =
+    absurd (omega (arith, ap length (st .4)))
+takes-held p s Takes.takes-aad loaded key nonce initial header body mac c st enough =
+    absurd (omega (arith, ap length (st .4)))
+takes-held p s Takes.takes-data loaded key nonce initial header body mac c st enough =
+    omega (arith, rest-tag (p .rate) (p .key) (length body) enough)
+
+open-passes : (v : SparkleVariant) (e : SparkleEngine) (r : Reader) → Follows v e r → Takes Decrypt (r .phase)
+    → (out : List ℕ)
+    → RoomFor e (Call.end out) → paramsOf v .key ≤ length (r .body)
+    → (n : ℕ) × (endCheck (paramsOf v) (r .phase) (heldOf (paramsOf v) r) (length out) ≡ Ok n)
+open-passes v e r w t out enough tagged =
+    let p = paramsOf v in
+    let h = heldOf p r in
+    let n = heldIn p (r .phase) h + 0 - p .key in
+    let u : totalLen p (r .phase) h 0 ≡ Ok n =
+    totalLen-opening p (r .phase) h 0 (takes-opening t)
+    (omega (arith, held-bound p (r .phase) h, keep-bound p (r .phase), small v .rate, small v .key)) in
+    let k =
+    takes-held p (sizes v) t (r .loaded) (r .key) (r .nonce) (r .initial) (r .header) (r .body) (w .mac) (w .count)
+    (w .standing) tagged in (
+      n,
+      end-passes p t h (length out) n u (enough n (total-outcome v e r w 0 ∙ ap outcome u))
+          (whole-open p (r .phase) h n (takes-opening t) k),
+    )
+
+-- ---- Whole messages
+
+run-append : (e : SparkleEngine) (xs ys : List Call) → runFrom e (xs ++ ys) ≡ runFrom (runFrom e xs) ys
+unfolding runFrom
+run-append e [] ys = refl
+run-append e (c ∷ xs) ys = run-append (step e c .engine) xs ys
+
+read-append : (p : Params) (r : Reader) (xs ys : List Call) → readFrom p r (xs ++ ys) ≡ readFrom p (readFrom p r xs) ys
+unfolding readFrom
+read-append p r [] ys = refl
+read-append p r (c ∷ xs) ys = read-append p (read p r c .reader) xs ys
+
+start-heading : (d : Direction) (initial : List ℕ) → Heading d (headerPhase d initial)
+start-heading d [] = heading-init
+start-heading d (x ∷ initial) = heading-aad
+
+heading-takes : {d : Direction} {phase : Phase} → Heading d phase → Takes d phase
+heading-takes heading-init = Takes.takes-init
+heading-takes heading-aad = Takes.takes-aad
+
+-- header and data calls after a start that is taken
+record Arrived (v : SparkleVariant) (d : Direction) (key nonce initial : List ℕ) (e : SparkleEngine)
+    (hs ms : List Call) : Type 0 where
+  taken : Accepts e (hs ++ ms)
+  header-is : lastReader v d key nonce initial (hs ++ ms) .header ≡ initial ++ headers hs
+  body-is : lastReader v d key nonce initial (hs ++ ms) .body ≡ datas ms
+
+arrived : (v : SparkleVariant) (d : Direction) (key nonce initial : List ℕ) (e : SparkleEngine)
+    → Follows v e (startedReader d key nonce initial)
+    → (hs ms : List Call) → Each HeaderCall hs → Each DataCall ms → length (datas ms) < 2 ^ 64 → Rooms e (hs ++ ms)
+    → Arrived v d key nonce initial e hs ms
+arrived v d key nonce initial e w hs ms bh bm short rooms =
+    let p = paramsOf v in
+    let r1 = startedReader d key nonce initial in
+    let r2 = readFrom p r1 hs in
+    let room = rooms-append e hs ms rooms in
+    let hq = headers-taken v d e r1 w (start-heading d initial) hs bh in
+    let dq = datas-taken v d (runFrom e hs) r2 (follows-from v e r1 w hs) (heading-takes (hq .heading)) ms bm
+    (omega (arith, ap length (hq .body-is))) (room .1) in
+    let is = read-append p r1 hs ms in
+    record {
+      taken = accepts-append e hs ms (hq .taken) (dq .taken);
+      header-is = ap (λ (x : Reader). x .header) is ∙ dq .header-is ∙ hq .header-is;
+      body-is = ap (λ (x : Reader). x .body) is ∙ dq .body-is ∙ ap (λ (l : List ℕ). l ++ datas ms) (hq .body-is);
+    }
+
+-- A message from start to end: header calls, then data calls, with queries and mac anywhere between.
+abbrev pub messageCalls : Direction → (key nonce : List ℕ) → ℕ → (initial : List ℕ) → List Call → List Call
+    → (out : List ℕ) → List Call
+messageCalls d key nonce size initial hs ms out = Call.start d key nonce size initial ∷ ((hs ++ ms) ++ (Call.end out ∷ []))
+
+-- All of it is accepted and writes these bytes; afterwards this tag can be read, and so many steps have run.
+pub record Completes (e : SparkleEngine) (calls : List Call) (bytes tag : List ℕ) (count : ℕ) : Type 0 where
+  pub accepted : Accepts e calls
+  pub bytes-are : outputs e calls ≡ bytes
+  pub tag-is : macOf (runFrom e calls) ≡ readable tag
+  pub steps-are : stepsNow (runFrom e calls) ≡ count
+
+-- Up to the end all is accepted; the end answers 6, writes zeros, and leaves no tag to read.
+pub record Rejects (e : SparkleEngine) (calls : List Call) (out : List ℕ) (count : ℕ) : Type 0 where
+  pub accepted : Accepts e calls
+  pub outcome-is : step (runFrom e calls) (Call.end out) .outcome ≡ Outcome.no (6 ∷ [])
+  pub zeros-are : (n : ℕ) × (step (runFrom e calls) (Call.end out) .buffer ≡ zeros n ++ drop n out)
+  pub no-tag : macOf (step (runFrom e calls) (Call.end out) .engine) ≡ noMac
+  pub steps-are : stepsNow (step (runFrom e calls) (Call.end out) .engine) ≡ count
+
+module _ (v : SparkleVariant) (before : List Call) (key nonce : List ℕ) (size : ℕ) (initial : List ℕ) (hs ms : List Call)
+    (out : List ℕ)
+    (key-fits : length key ≡ paramsOf v .key) (nonce-fits : length nonce ≡ paramsOf v .rate)
+    (size-fits : size ≡ paramsOf v .key)
+    (bh : Each HeaderCall hs) (bm : Each DataCall ms) (short : length (datas ms) < 2 ^ 64) where
+  between : (d : Direction) → Betweens (begunEngine v before d key nonce size initial) (hs ++ ms)
+  between d = all-between (begunEngine v before d key nonce size initial) hs ms bh bm
+
+  -- a start that is taken
+  sealing-starts : repeated (reader v before) key nonce ≡ false
+      → step (run v before) (Call.start Encrypt key nonce size initial) .outcome ≡ Outcome.ok 0
+  sealing-starts fresh =
+      start-outcome v (run v before) (reader v before) (follows-run v before) Encrypt key nonce size initial
+      ∙ ap startOutcome
+      (startCheck-sealing (paramsOf v) Encrypt (length key) (length nonce) size
+      (repeated (reader v before) key nonce) key-fits nonce-fits size-fits refl
+      ∙ ap (λ (b : Bool). cond b (StartErr NonceReuse) StartOk) fresh)
+
+  opening-starts : step (run v before) (Call.start Decrypt key nonce size initial) .outcome ≡ Outcome.ok 0
+  opening-starts =
+      start-outcome v (run v before) (reader v before) (follows-run v before) Decrypt key nonce size initial
+      ∙ ap startOutcome
+      (startCheck-opening (paramsOf v) Decrypt (length key) (length nonce) size
+      (repeated (reader v before) key nonce) key-fits nonce-fits size-fits refl)
+
+  -- the last reader in its parts
+  module _ (d : Direction) (o : step (run v before) (Call.start d key nonce size initial) .outcome ≡ Outcome.ok 0)
+      (rooms : Rooms (run v before) (messageCalls d key nonce size initial hs ms out)) where
+    end-room : Rooms (begunEngine v before d key nonce size initial) (hs ++ ms)
+        × Rooms (runFrom (begunEngine v before d key nonce size initial) (hs ++ ms)) (Call.end out ∷ [])
+    end-room = rooms-append (begunEngine v before d key nonce size initial) (hs ++ ms) (Call.end out ∷ []) (rooms .1)
+
+    ready-end : Arrived v d key nonce initial (begunEngine v before d key nonce size initial) hs ms
+    ready-end =
+        arrived v d key nonce initial (begunEngine v before d key nonce size initial)
+        (begun-follows v before d key nonce size initial (hs ++ ms) out 0 o (between d)) hs ms bh bm short (end-room .0)
+
+    end-follows : Follows v (runFrom (begunEngine v before d key nonce size initial) (hs ++ ms))
+        (lastReader v d key nonce initial (hs ++ ms))
+    end-follows = last-follows v before d key nonce size initial (hs ++ ms) out 0 o (between d)
+
+    end-going : Going d key nonce (lastReader v d key nonce initial (hs ++ ms))
+    end-going = last-going v before d key nonce size initial (hs ++ ms) out 0 o (between d)
+
+    -- what is said of the last reader's parts is said of what was handed in
+    in-parts : (A : Type 0) (g : (key nonce header body : List ℕ) → A)
+        → (let r = lastReader v d key nonce initial (hs ++ ms) in g (r .key) (r .nonce) (r .header) (r .body))
+        ≡ g key nonce (initial ++ headers hs) (datas ms)
+    in-parts A g =
+        let r = lastReader v d key nonce initial (hs ++ ms) in
+        ap₂ (λ (x y : List ℕ). g x y (r .header) (r .body)) (end-going .key-is) (end-going .nonce-is)
+        ∙ ap₂ (λ (x y : List ℕ). g key nonce x y) (ready-end .header-is) (ready-end .body-is)
+
+    -- the engine after the whole list
+    whole-run : runFrom (run v before) (messageCalls d key nonce size initial hs ms out)
+        ≡ step (runFrom (begunEngine v before d key nonce size initial) (hs ++ ms)) (Call.end out) .engine
+    unfolding runFrom
+    whole-run = run-append (begunEngine v before d key nonce size initial) (hs ++ ms) (Call.end out ∷ [])
+
+  -- After any calls, a sealing with a pair that is not the last loaded and with room for its outputs is accepted, and
+  -- writes the specification's packet of the whole header and the whole data, however these are cut.
+  pub sealed : repeated (reader v before) key nonce ≡ false
+      → Rooms (run v before) (messageCalls Encrypt key nonce size initial hs ms out)
+      → Completes (run v before) (messageCalls Encrypt key nonce size initial hs ms out)
+      (seal (paramsOf v) key nonce (initial ++ headers hs) (datas ms))
+      (tag (paramsOf v) key nonce (initial ++ headers hs) (datas ms))
+      (steps (paramsOf v) (length (initial ++ headers hs)) (length (datas ms)) % 2 ^ 64)
+  unfolding messageOf
+  sealed fresh rooms =
+      let p = paramsOf v in
+      let r = lastReader v Encrypt key nonce initial (hs ++ ms) in
+      let o = sealing-starts fresh in
+      let w = end-follows Encrypt o rooms in
+      let t = end-going Encrypt o rooms .takes in
+      let a = ready-end Encrypt o rooms in
+      let q = seal-passes v _ r w t out (end-room Encrypt o rooms .1 .0) in
+      let f = seal-end v _ r w out (q .0) (q .1) (takes-opening t) .outcome-is in
+      let z = end-ended v _ r w out (q .0) (q .1) in
+      let sealing =
+      ap (λ (b : Bool). cond b (decrypt p (r .key) (r .nonce) (r .header) (bodyOf p (r .body))) (r .body))
+      (takes-opening t) in
+      record {
+        accepted = ((0, o), accepts-append _ (hs ++ ms) (Call.end out ∷ []) (a .taken) ((q .0, f), tt));
+        bytes-are =
+            sealed-taken v before key nonce size initial (hs ++ ms) out 0 (q .0) o (between Encrypt) f
+            ∙ ap₂ (λ (x y : List ℕ). seal p key nonce x y) (a .header-is) (a .body-is);
+        tag-is =
+            ap macOf (whole-run Encrypt o rooms) ∙ z .mac-is
+            ∙ ap (λ (b : Bool). cond (cond b (verified p (r .key) (r .nonce) (r .header) (r .body)) true)
+            (readable (tag p (r .key) (r .nonce) (r .header) (messageOf p r))) noMac) (takes-opening t)
+            ∙ ap (λ (x : List ℕ). readable (tag p (r .key) (r .nonce) (r .header) x)) sealing
+            ∙ in-parts Encrypt o rooms Mac (λ k n x y. readable (tag p k n x y));
+        steps-are =
+            ap stepsNow (whole-run Encrypt o rooms) ∙ z .steps-are
+            ∙ ap (λ (x : List ℕ). steps p (length (r .header)) (length x) % 2 ^ 64) sealing
+            ∙ in-parts Encrypt o rooms ℕ (λ k n x y. steps p (length x) (length y) % 2 ^ 64);
+      }
+
+  -- After any calls, an opening of a verified packet with room for its outputs is accepted, and writes what the packet's
+  -- body decrypts to, however header and packet are cut.
+  module _ (rooms : Rooms (run v before) (messageCalls Decrypt key nonce size initial hs ms out))
+      (tagged : paramsOf v .key ≤ length (datas ms)) where
+    -- an opening's end past its checks
+    open-checked : (n : ℕ)
+        × (endCheck (paramsOf v) (lastReader v Decrypt key nonce initial (hs ++ ms) .phase)
+        (heldOf (paramsOf v) (lastReader v Decrypt key nonce initial (hs ++ ms))) (length out) ≡ Ok n)
+    open-checked =
+        open-passes v _ _ (end-follows Decrypt opening-starts rooms) (end-going Decrypt opening-starts rooms .takes) out
+        (end-room Decrypt opening-starts rooms .1 .0) (omega (arith, ap length (ready-end Decrypt opening-starts rooms .body-is)))
+
+    -- the message is what the packet decrypts to
+    open-message : messageOf (paramsOf v) (lastReader v Decrypt key nonce initial (hs ++ ms))
+        ≡ decrypt (paramsOf v) key nonce (initial ++ headers hs) (bodyOf (paramsOf v) (datas ms))
+    unfolding messageOf
+    open-message =
+        let p = paramsOf v in
+        let r = lastReader v Decrypt key nonce initial (hs ++ ms) in
+        ap (λ (b : Bool). cond b (decrypt p (r .key) (r .nonce) (r .header) (bodyOf p (r .body))) (r .body))
+        (takes-opening (end-going Decrypt opening-starts rooms .takes))
+        ∙ in-parts Decrypt opening-starts rooms (List ℕ) (λ k n x y. decrypt p k n x (bodyOf p y))
+
+    open-steps : (e : SparkleEngine) → stepsNow e
+        ≡ steps (paramsOf v) (length (lastReader v Decrypt key nonce initial (hs ++ ms) .header))
+        (length (messageOf (paramsOf v) (lastReader v Decrypt key nonce initial (hs ++ ms)))) % 2 ^ 64
+        → stepsNow e ≡ steps (paramsOf v) (length (initial ++ headers hs)) (length (datas ms) - paramsOf v .key) % 2 ^ 64
+    open-steps e h =
+        let p = paramsOf v in
+        h
+        ∙ ap₂ (λ (x y : List ℕ). steps p (length x) (length y) % 2 ^ 64)
+        (ready-end Decrypt opening-starts rooms .header-is) open-message
+        ∙ ap (λ (k : ℕ). steps p (length (initial ++ headers hs)) k % 2 ^ 64)
+        (length-decrypt p (sizes v) key nonce (initial ++ headers hs) (bodyOf p (datas ms)) ∙ length-body p
+        (datas ms) tagged)
+
+    module _ (g : Bool) (is : verified (paramsOf v) key nonce (initial ++ headers hs) (datas ms) ≡ g) where
+      open-verdict : verified (paramsOf v) (lastReader v Decrypt key nonce initial (hs ++ ms) .key)
+          (lastReader v Decrypt key nonce initial (hs ++ ms) .nonce)
+          (lastReader v Decrypt key nonce initial (hs ++ ms) .header)
+          (lastReader v Decrypt key nonce initial (hs ++ ms) .body) ≡ g
+      open-verdict = in-parts Decrypt opening-starts rooms Bool (verified (paramsOf v)) ∙ is
+
+      open-outcome : step (runFrom (begunEngine v before Decrypt key nonce size initial) (hs ++ ms)) (Call.end out) .outcome
+          ≡ cond g (Outcome.ok (open-checked .0)) (Outcome.no (6 ∷ []))
+      open-outcome =
+          open-end v _ _ (end-follows Decrypt opening-starts rooms) out (open-checked .0) (open-checked .1)
+          (takes-opening (end-going Decrypt opening-starts rooms .takes)) .outcome-is
+          ∙ ap (λ (b : Bool). cond b (Outcome.ok (open-checked .0)) (Outcome.no (6 ∷ []))) open-verdict
+
+      open-mac : macOf
+          (step (runFrom (begunEngine v before Decrypt key nonce size initial) (hs ++ ms)) (Call.end out) .engine)
+          ≡ cond g (readable (tag (paramsOf v) key nonce (initial ++ headers hs)
+          (decrypt (paramsOf v) key nonce (initial ++ headers hs) (bodyOf (paramsOf v) (datas ms))))) noMac
+      open-mac =
+          let p = paramsOf v in
+          let r = lastReader v Decrypt key nonce initial (hs ++ ms) in
+          let H = initial ++ headers hs in
+          let z = end-ended v _ r (end-follows Decrypt opening-starts rooms) out (open-checked .0) (open-checked .1) in
+          let t = takes-opening (end-going Decrypt opening-starts rooms .takes) in
+          z .mac-is
+          ∙ ap₂ (λ (b : Bool) (x : List ℕ). cond (cond b (verified p (r .key) (r .nonce) (r .header) (r .body)) true)
+          (readable (tag p (r .key) (r .nonce) (r .header) x)) noMac)
+          t open-message
+          ∙ ap (λ (b : Bool). cond b (readable (tag p (r .key) (r .nonce) (r .header) (decrypt p key nonce H (bodyOf p (datas ms))))) noMac) open-verdict
+          ∙ in-parts Decrypt opening-starts rooms Mac (λ k n x y. cond g
+          (readable (tag p k n x (decrypt p key nonce H (bodyOf p (datas ms))))) noMac)
+
+    pub opened : verified (paramsOf v) key nonce (initial ++ headers hs) (datas ms) ≡ true
+        → Completes (run v before) (messageCalls Decrypt key nonce size initial hs ms out)
+        (decrypt (paramsOf v) key nonce (initial ++ headers hs) (bodyOf (paramsOf v) (datas ms)))
+        (tag (paramsOf v) key nonce (initial ++ headers hs) (decrypt (paramsOf v) key nonce (initial ++ headers hs) (bodyOf (paramsOf v) (datas ms))))
+        (steps (paramsOf v) (length (initial ++ headers hs)) (length (datas ms) - paramsOf v .key) % 2 ^ 64)
+    opened good =
+        let p = paramsOf v in
+        let o = opening-starts in
+        let a = ready-end Decrypt o rooms in
+        let z = end-ended v _ _ (end-follows Decrypt o rooms) out (open-checked .0) (open-checked .1) in
+        record {
+          accepted = (
+            (0, o),
+            accepts-append _ (hs ++ ms) (Call.end out ∷ []) (a .taken)
+                ((open-checked .0, open-outcome true good), tt),
+          );
+          bytes-are =
+              opened-taken v before key nonce size initial (hs ++ ms) out 0 (open-checked .0) o (between Decrypt)
+              (open-outcome true good) .bytes-are
+              ∙ ap₂ (λ (x y : List ℕ). decrypt p key nonce x (bodyOf p y)) (a .header-is) (a .body-is);
+          tag-is = ap macOf (whole-run Decrypt o rooms) ∙ open-mac true good;
+          steps-are = ap stepsNow (whole-run Decrypt o rooms) ∙ open-steps _ (z .steps-are);
+        }
+
+    -- A packet that is not verified is refused with 6 at the end, and nothing else is refused.
+    pub rejected : verified (paramsOf v) key nonce (initial ++ headers hs) (datas ms) ≡ false
+        → Rejects (run v before) (Call.start Decrypt key nonce size initial ∷ (hs ++ ms)) out
+        (steps (paramsOf v) (length (initial ++ headers hs)) (length (datas ms) - paramsOf v .key) % 2 ^ 64)
+    unfolding runFrom
+    rejected bad =
+        let o = opening-starts in
+        let a = ready-end Decrypt o rooms in
+        let w = end-follows Decrypt o rooms in
+        let t = takes-opening (end-going Decrypt o rooms .takes) in
+        let z = end-ended v _ _ w out (open-checked .0) (open-checked .1) in
+        record {
+          accepted = ((0, o), a .taken);
+          outcome-is = open-outcome false bad;
+          zeros-are = (
+            open-checked .0,
+            open-end v _ _ w out (open-checked .0) (open-checked .1) t .bad-bytes
+                (open-verdict false bad),
+          );
+          no-tag = open-mac false bad;
+          steps-are = open-steps _ (z .steps-are);
+        }
+
+-- What one list of calls seals, another opens: under the same key, nonce and header, with the sealed bytes for data, both
+-- cut anyhow and with room, both are accepted, and the opening writes the data that was sealed.
+pub record RoundTrip (v : SparkleVariant) (before after : List Call) (sealing opening : List Call)
+    (m : List ℕ) : Type 0 where
+  pub sealing-accepted : Accepts (run v before) sealing
+  pub opening-accepted : Accepts (run v after) opening
+  pub returned : outputs (run v after) opening ≡ m
+
+pub opened-sealed : (v : SparkleVariant) (before after : List Call) (key nonce : List ℕ) (size : ℕ)
+    (initial initial' : List ℕ) (hs hs' ms ms' : List Call) (out out' : List ℕ)
+    → length key ≡ paramsOf v .key → length nonce ≡ paramsOf v .rate → size ≡ paramsOf v .key
+    → Each HeaderCall hs → Each DataCall ms → Each HeaderCall hs' → Each DataCall ms'
+    → repeated (reader v before) key nonce ≡ false
+    → length (datas ms) < 2 ^ 64 → length (datas ms') < 2 ^ 64
+    → Rooms (run v before) (messageCalls Encrypt key nonce size initial hs ms out)
+    → Rooms (run v after) (messageCalls Decrypt key nonce size initial' hs' ms' out')
+    → initial' ++ headers hs' ≡ initial ++ headers hs
+    → datas ms' ≡ outputs (run v before) (messageCalls Encrypt key nonce size initial hs ms out)
+    → RoundTrip v before after (messageCalls Encrypt key nonce size initial hs ms out)
+    (messageCalls Decrypt key nonce size initial' hs' ms' out') (datas ms)
+opened-sealed v before after key nonce size initial initial' hs hs' ms ms' out out' kf nf sf bh bm bh' bm' fresh short short' rooms rooms' he de =
+    let p = paramsOf v in
+    let H = initial ++ headers hs in
+    let m = datas ms in
+    let s = sealed v before key nonce size initial hs ms out kf nf sf bh bm short fresh rooms in
+    let packet : datas ms' ≡ seal p key nonce H m = de ∙ s .bytes-are in
+    let tagged : p .key ≤ length (datas ms') = omega (arith, ap length packet, length-seal p (sizes v) key nonce H kf m) in
+    let good : verified p key nonce (initial' ++ headers hs') (datas ms') ≡ true =
+    ap₂ (λ (x y : List ℕ). verified p key nonce x y) he packet ∙ verified-seal p (sizes v) key nonce H kf m in
+    let q = opened v after key nonce size initial' hs' ms' out' kf nf sf bh' bm' short' rooms' tagged good in
+    record {
+      sealing-accepted = s .accepted;
+      opening-accepted = q .accepted;
+      returned =
+          q .bytes-are ∙ ap₂ (λ (x y : List ℕ). decrypt p key nonce x (bodyOf p y)) he packet
+          ∙ ap (decrypt p key nonce H) (body-seal p (sizes v) key nonce H kf m) ∙ decrypt-encrypt p (sizes v) key nonce H m;
+    }

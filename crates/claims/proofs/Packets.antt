@@ -1,0 +1,114 @@
+-- What an opening holds at its end: the blocks that went are the leading blocks of the packet's body, and what is held is
+-- the body's last block and the received tag. A sealing's is the case without a tag.
+use mathlib.Core.Path.{_≡_, refl, sym, ap, ap₂, _∙_}
+use mathlib.Core.List.{List, [], _∷_}
+use Prim.Native.Nat.{ℕ, zero, suc, _+_, _-_, _*_, _≤_, _<_}
+use native.Mathlib.Nat.{zero-add, suc-add}
+use native.Mathlib.Omega.{arith}
+use borrow.Author.Tests.{lt-ltb}
+use lib.ListN.{length, take, drop}
+use lib.Seq.{length-take-le, drop-drop, drop-nil, take-nil}
+use Rattle.schwaemm.specs.Bytes.{ifEmpty}
+use Rattle.schwaemm.specs.Blocks.{ready, after, given, held}
+use Rattle.schwaemm.specs.Schwaemm.{Params, mixLast, leading, messageBlock, beforeLast, lastBlock, message, body, received, stepsOf}
+use Rattle.schwaemm.proofs.Cut.{ready-before, rest-above, after-take, given-take, length-held}
+use Rattle.schwaemm.proofs.RoundTrip.{length-lastBlock, leading-bound}
+use Rattle.schwaemm.proofs.Steps.{steps-some}
+use Rattle.tc_sparkle_aead.specs.Calls.{lastState, lastSteps}
+use Rattle.claims.proofs.Points.{ready-zero, after-nil}
+
+-- ---- The last block
+
+module _ (p : Params) where
+  lastBlock-some : (c : List ℕ) → 0 < length c → 0 < length (lastBlock p c)
+  unfolding leading
+  lastBlock-some c hc = omega (arith, length-lastBlock p c, rest-above (p .rate) 0 (length c) hc)
+
+  if-some : (l x y : List ℕ) → 0 < length l → ifEmpty l x y ≡ y
+  unfolding ifEmpty
+  if-some [] x y hl = absurd (omega arith)
+  if-some (a ∷ l) x y hl = refl
+
+  -- the state after the last block is the state after the message
+  pub last-state : (plain : List ℕ → List ℕ → List ℕ) (s c : List ℕ)
+      → lastState p (beforeLast p plain s c) (lastBlock p c) (plain (beforeLast p plain s c) (lastBlock p c))
+      ≡ message p plain s c
+  unfolding lastState message ifEmpty beforeLast lastBlock leading
+  last-state plain s [] =
+      ap (λ (l : List ℕ). ifEmpty l (after (p .rate) (messageBlock p plain) (ready (p .rate) 0 0) s [])
+      (mixLast p 2 (beforeLast p plain s []) (plain (beforeLast p plain s []) l)))
+      (drop-nil (ready (p .rate) 0 0 * p .rate))
+      ∙ after-nil (p .rate) 0 (messageBlock p plain) s
+  last-state plain s (x ∷ c) = if-some (lastBlock p (x ∷ c)) _ _ (lastBlock-some (x ∷ c) (omega arith))
+
+  -- the steps of the blocks and of the last block are the message's
+  pub last-steps : (c : List ℕ) → leading p (length c) * p .slim + lastSteps p (lastBlock p c) ≡ stepsOf p (length c)
+  unfolding lastSteps lastBlock leading stepsOf
+  last-steps [] = rw (drop-nil {A = ℕ} (ready (p .rate) 0 0 * p .rate), ready-zero (p .rate) 0) (omega arith)
+  last-steps (x ∷ c) =
+      rw (lt-ltb 0 (length (lastBlock p (x ∷ c))) (lastBlock-some (x ∷ c) (omega arith)))
+      (sym (steps-some p (length (x ∷ c)) (omega arith)))
+
+-- ---- A packet of at least a tag's bytes
+
+-- n elements dropped from n + k leave k of those that follow
+drop-take : (n k : ℕ) (d : List ℕ) → drop n (take (n + k) d) ≡ take k (drop n d)
+drop-take zero k d = ap (λ (j : ℕ). take j d) (zero-add k)
+drop-take (suc n) k [] = ap (λ (j : ℕ). drop (suc n) (take j [])) (suc-add n k) ∙ sym (take-nil k)
+drop-take (suc n) k (x ∷ d) = ap (λ (j : ℕ). drop (suc n) (take j (x ∷ d))) (suc-add n k) ∙ drop-take n k d
+
+module _ (p : Params) (packet : List ℕ) (enough : p .key ≤ length packet) where
+  pub length-body : length (body p packet) ≡ length packet - p .key
+  unfolding body
+  length-body = length-take-le (length packet - p .key) packet (omega arith)
+
+  pub packet-blocks : ready (p .rate) (p .key) (length packet) ≡ leading p (length (body p packet))
+  unfolding leading
+  packet-blocks = ready-before (p .rate) (p .key) (length packet) ∙ ap (ready (p .rate) 0) (sym length-body)
+
+  body-bound : leading p (length (body p packet)) * p .rate ≤ length packet - p .key
+  body-bound = omega (arith, leading-bound p (length (body p packet)), length-body)
+
+  pub packet-state : (plain : List ℕ → List ℕ → List ℕ) (s : List ℕ)
+      → after (p .rate) (messageBlock p plain) (ready (p .rate) (p .key) (length packet)) s packet
+      ≡ beforeLast p plain s (body p packet)
+  unfolding beforeLast body
+  packet-state plain s =
+      ap (λ (n : ℕ). after (p .rate) (messageBlock p plain) n s packet) packet-blocks
+      ∙ sym (after-take (p .rate) (messageBlock p plain) _ (length packet - p .key) s packet body-bound)
+
+  pub packet-given : (step out : List ℕ → List ℕ → List ℕ) (s : List ℕ)
+      → given (p .rate) step out (ready (p .rate) (p .key) (length packet)) s packet
+      ≡ given (p .rate) step out (leading p (length (body p packet))) s (body p packet)
+  unfolding body
+  packet-given step out s =
+      ap (λ (n : ℕ). given (p .rate) step out n s packet) packet-blocks
+      ∙ sym (given-take (p .rate) step out _ (length packet - p .key) s packet body-bound)
+
+  -- where the tag begins in what is held
+  held-tag : length (held (p .rate) (p .key) packet) - p .key
+      ≡ length packet - p .key - leading p (length (body p packet)) * p .rate
+  held-tag =
+      omega (arith, length-held (p .rate) (p .key) packet, ap (λ (n : ℕ). n * p .rate) packet-blocks)
+
+  held-is : held (p .rate) (p .key) packet ≡ drop (leading p (length (body p packet)) * p .rate) packet
+  unfolding held
+  held-is = ap (λ (n : ℕ). drop (n * p .rate) packet) packet-blocks
+
+  pub held-block : take (length (held (p .rate) (p .key) packet) - p .key) (held (p .rate) (p .key) packet)
+      ≡ lastBlock p (body p packet)
+  unfolding lastBlock body
+  held-block =
+      let k = leading p (length (body p packet)) * p .rate in
+      let e : k + (length packet - p .key - k) ≡ length packet - p .key = omega (arith, body-bound) in
+      ap₂ (λ (n : ℕ) (l : List ℕ). take n l) held-tag held-is
+      ∙ sym (drop-take k (length packet - p .key - k) packet) ∙ ap (λ (n : ℕ). drop k (take n packet)) e
+
+  pub held-received : drop (length (held (p .rate) (p .key) packet) - p .key) (held (p .rate) (p .key) packet)
+      ≡ received p packet
+  unfolding received
+  held-received =
+      let k = leading p (length (body p packet)) * p .rate in
+      let e : k + (length packet - p .key - k) ≡ length packet - p .key = omega (arith, body-bound) in
+      ap₂ (λ (n : ℕ) (l : List ℕ). drop n l) held-tag held-is
+      ∙ drop-drop (length packet - p .key - k) k packet ∙ ap (λ (n : ℕ). drop n packet) e

@@ -1,0 +1,597 @@
+-- What of an engine the shapes of its calls and their verdicts decide: phases, counts, steps and whether a tag can be
+-- read, and no content. For every engine value the next public state and the line are functions of the public state, the
+-- call's shape and the verdict, and the verdict is a function of the public state, the shape and the outcome.
+use mathlib.Core.Path.{_≡_, refl, ap, _∙_}
+use mathlib.Core.Bool.{Bool, true, false, cond, not}
+use mathlib.Core.List.{List, [], _∷_}
+use Prim.Native.Nat.{ℕ, zero, suc, _+_, _-_, _*_, _%_, _^_, min}
+use native.Mathlib.Omega.{arith}
+use lib.ListN.{length, length-take, length-drop, length-append, length-replicate}
+use lib.Dec.{eqb, ltb}
+use Rattle.schwaemm.specs.Bytes.{same}
+use Rattle.schwaemm.specs.Blocks.{ready, held}
+use Rattle.schwaemm.specs.Schwaemm.{Params}
+use Rattle.tc_sparkle_aead.specs.declared.variant.SparkleVariant.{SparkleVariant}
+use Rattle.tc_sparkle_aead.specs.declared.phase.Direction.{Direction}
+use Rattle.tc_sparkle_aead.specs.declared.phase.Direction.the-variants.{Encrypt, Decrypt}
+use Rattle.tc_sparkle_aead.specs.declared.phase.Phase.{Phase}
+use Rattle.tc_sparkle_aead.specs.declared.phase.Phase.the-variants.{Uninitialized, Init, Aad, Data, Final}
+use Rattle.tc_sparkle_aead.specs.declared.aead_error.AeadResult.{AeadResult}
+use Rattle.tc_sparkle_aead.specs.declared.aead_error.AeadResult.the-variants.{Ok, Err}
+use Rattle.tc_sparkle_aead.specs.declared.aead_init_error.AeadInitError.the-variants.{InvalidKeyLength, InvalidNonceLength, InvalidMacSize, NonceReuse}
+use Rattle.tc_sparkle_aead.specs.declared.aead_init_error.AeadInitResult.{AeadInitResult}
+use Rattle.tc_sparkle_aead.specs.declared.aead_init_error.AeadInitResult.the-variants.{Ok as StartOk, Err as StartErr}
+use Rattle.tc_sparkle_aead.specs.declared.engine.Point.{Point}
+use Rattle.tc_sparkle_aead.specs.declared.engine.Steps.{Steps}
+use Rattle.tc_sparkle_aead.specs.declared.engine.SparkleEngine.{SparkleEngine}
+use Rattle.tc_sparkle_aead.specs.Variant.{paramsOf}
+use Rattle.tc_sparkle_aead.specs.Checks.{opens, opening, keep, updateLen, totalLen, aadCheck, dataCheck, endCheck, startCheck}
+use Rattle.tc_sparkle_aead.specs.Engine.{zeros, inArray, noMessage, noMac, noSteps, initSteps, resetSteps, repeats, updateOutputLen, outputLen}
+use Rattle.tc_sparkle_aead.specs.Calls.{heldCount, heldBytes, stream, blocks, streamed, addSteps, atPoint, startPoint, headed, headedSteps, aadIn, beginBy, beginData, dataIn, openBlock, lastSteps, finalPoint, ended, afterHeader, withoutHeader}
+use Rattle.tc_sparkle_aead.specs.Calls.{refused, started, init, initBy, aadBy, processAadBytes, dataBy, dataAnswer, finalAnswer, processBytes, receivedTag, openTag, readable, sealEnd, openEndBy, openEnd, finalBy, doFinal, resetPoint, macOf, stepsNow}
+use Rattle.tc_sparkle_aead.specs.Calls.{reset as resetEngine}
+use Rattle.claims.specs.Call.{Call, Shape, shape, Outcome, outcome, startOutcome, step, Line, line}
+use Rattle.claims.specs.Call.Outcome.{ok, no}
+use Rattle.claims.specs.Reader.{Verdict, verdictOf, startVerdict, refusedVerdict}
+use Rattle.claims.specs.Reader.Verdict.{Yes, No, None}
+use Rattle.claims.proofs.Machine.{openOutcome, endOutcome}
+
+-- ---- The public state
+
+-- Of a point of a message: the phase, the count of held bytes, and the size of the array that holds them.
+pub record Outside : Type 0 where
+  pub phase : Phase
+  pub held : ℕ
+  pub size : ℕ
+
+abbrev pub outside : Point → Outside
+outside at = record { phase = at .phase; held = at .held; size = length (at .buffer) }
+
+pub record Public : Type 0 where
+  pub variant : SparkleVariant
+  pub current : Outside
+  pub initial : Outside
+  pub steps : Steps
+  pub readable : Bool
+
+abbrev pub publicOf : SparkleEngine → Public
+publicOf e =
+    record {
+      variant = e .variant;
+      current = outside (e .current);
+      initial = outside (e .initial);
+      steps = e .steps;
+      readable = e .mac .readable;
+    }
+
+-- ---- The verdict as the engine decides it
+
+-- A start: whether the pair repeats, where it seals and its sizes are right.
+abbrev pub startNote : AeadInitResult → Direction → Bool → Verdict
+startNote (StartErr x) d repeats = refusedVerdict x d repeats
+startNote StartOk d repeats = startVerdict d repeats
+
+-- An end: whether the tag is right, where it opens and its checks have passed.
+abbrev pub endNote : AeadResult → Bool → Bool → Verdict
+endNote (Err x) opens right = None
+endNote (Ok n) opens right = cond opens (verdictOf right) None
+
+unfoldable pub asked : SparkleEngine → Call → Verdict
+asked e (Call.start d key nonce size header) =
+    let p = paramsOf (e .variant) in
+    startNote (startCheck p d (length key) (length nonce) size (repeats p (e .pair) key nonce)) d (repeats p (e .pair) key nonce)
+asked e (Call.header input) = None
+asked e (Call.message input out) = None
+asked e (Call.end out) =
+    endNote (endCheck (paramsOf (e .variant)) (e .current .phase) (e .current .held) (length out))
+    (opening (e .current .phase)) (same (receivedTag (beginData e)) (openTag (beginData e)))
+asked e Call.reset = None
+asked e Call.tag = None
+asked e (Call.update n) = None
+asked e (Call.output n) = None
+
+-- ---- Points
+
+-- how many bytes a point holds
+abbrev pub heldSize : Params → Outside → ℕ
+heldSize p q = min (heldCount p (q .phase) (q .held)) (q .size)
+
+-- the point after a stream of n more bytes
+abbrev pub flowed : Params → ℕ → Phase → Outside → ℕ → Outside
+flowed p keep phase q n =
+    record {
+      phase = phase;
+      held = heldSize p q + n - ready (p .rate) keep (heldSize p q + n) * p .rate;
+      size = 64;
+    }
+
+length-heldBytes : (p : Params) (at : Point) → length (heldBytes p at) ≡ heldSize p (outside at)
+unfolding heldBytes
+length-heldBytes p at = length-take _ _
+
+length-stream : (p : Params) (at : Point) (input : List ℕ)
+    → length (stream p at input) ≡ heldSize p (outside at) + length input
+unfolding stream
+length-stream p at input = rw (length-append, length-heldBytes)
+
+pub length-inArray : (n : ℕ) (l : List ℕ) → length (inArray n l) ≡ n
+unfolding inArray zeros
+length-inArray n l = rw (length-take, length-append, length-replicate) (omega arith)
+
+blocks-flowed : (p : Params) (keep : ℕ) (at : Point) (input : List ℕ)
+    → blocks p keep at input ≡ ready (p .rate) keep (heldSize p (outside at) + length input)
+unfolding blocks
+blocks-flowed p keep at input = rw length-stream
+
+streamed-flowed : (p : Params) (keep : ℕ) (s : List ℕ → List ℕ → List ℕ) (phase : Phase) (at : Point) (input : List ℕ)
+    → outside (streamed p keep s phase at input) ≡ flowed p keep phase (outside at) (length input)
+unfolding streamed held
+streamed-flowed p keep s phase at input =
+    let h : length (held (p .rate) keep (stream p at input)) ≡ flowed p keep phase (outside at) (length input) .held =
+    rw (length-drop, length-stream) refl
+    in
+    λ i. record { phase = phase; held = h i; size = length-inArray 64 (held (p .rate) keep (stream p at input)) i }
+
+-- the public state at another point, after n more steps
+abbrev pub moved : Public → Outside → ℕ → Public
+moved u q n =
+    record { variant = u .variant; current = q; initial = u .initial; steps = addSteps n (u .steps); readable = u .readable }
+
+moved-public : (e : SparkleEngine) (at : Point) (q : Outside) (n m : ℕ) → outside at ≡ q → n ≡ m
+    → publicOf (atPoint e at n) ≡ moved (publicOf e) q m
+unfolding atPoint
+moved-public e at q n m h k = rw (k, ← h)
+
+-- ---- What the public state becomes
+
+abbrev pub yes : Verdict → Bool
+yes Yes = true
+yes No = false
+yes None = false
+
+-- init
+abbrev pub wipedNext : Public → Public
+wipedNext u =
+    record { variant = u .variant; current = outside noMessage; initial = outside noMessage; steps = noSteps; readable = false }
+
+abbrev pub startOutside : Direction → Outside
+startOutside d = record { phase = Init d; held = 0; size = 64 }
+
+abbrev pub headedNext : Params → Direction → Outside → ℕ → Outside
+headedNext p d q zero = q
+headedNext p d q (suc n) = flowed p 0 (Aad d) q (suc n)
+
+abbrev pub headedCount : Params → Outside → ℕ → ℕ
+headedCount p q n = ready (p .rate) 0 (heldSize p q + n) * p .slim
+
+abbrev pub startNext : AeadInitResult → Public → Direction → ℕ → Public
+startNext (StartErr x) u d n = wipedNext u
+startNext StartOk u d n =
+    let p = paramsOf (u .variant) in
+    record {
+      variant = u .variant;
+      current = headedNext p d (startOutside d) n;
+      initial = headedNext p d (startOutside d) n;
+      steps = initSteps ((p .big + headedCount p (startOutside d) n) % 2 ^ 64);
+      readable = false;
+    }
+
+-- process_aad_bytes
+abbrev pub headerIn : Phase → Public → ℕ → Public
+headerIn Uninitialized u n = u
+headerIn (Init d) u n =
+    let p = paramsOf (u .variant) in moved u (headedNext p d (u .current) n) (headedCount p (u .current) n)
+headerIn (Aad d) u n =
+    let p = paramsOf (u .variant) in moved u (headedNext p d (u .current) n) (headedCount p (u .current) n)
+headerIn (Data d) u n = u
+headerIn (Final d) u n = u
+
+abbrev pub headerNext : AeadResult → Public → ℕ → Public
+headerNext (Err x) u n = u
+headerNext (Ok k) u zero = u
+headerNext (Ok k) u (suc n) = headerIn (u .current .phase) u (suc n)
+
+abbrev pub headerShows : AeadResult → Outcome
+headerShows (Err x) = outcome (Err x)
+headerShows (Ok k) = ok 0
+
+-- process_bytes
+abbrev pub begunNext : Phase → Public → Public
+begunNext Uninitialized u = u
+begunNext (Init d) u = moved u (record { phase = Data d; held = 0; size = 64 }) 0
+begunNext (Aad d) u = moved u (record { phase = Data d; held = 0; size = 64 }) (paramsOf (u .variant) .big)
+begunNext (Data d) u = u
+begunNext (Final d) u = u
+
+abbrev pub dataIntake : Public → ℕ → Public
+dataIntake u n =
+    let p = paramsOf (u .variant) in
+    let k = keep p (u .current .phase) in
+    moved u (flowed p k (u .current .phase) (u .current) n) (ready (p .rate) k (heldSize p (u .current) + n) * p .slim)
+
+abbrev pub dataNext : AeadResult → Public → ℕ → Public
+dataNext (Err x) u n = u
+dataNext (Ok k) u n = dataIntake (begunNext (u .current .phase) u) n
+
+-- do_final
+abbrev pub endedNext : Public → Direction → Bool → ℕ → Public
+endedNext u d readable n =
+    record {
+      variant = u .variant;
+      current = outside (finalPoint d);
+      initial = u .initial;
+      steps = addSteps (cond (ltb 0 n) (paramsOf (u .variant) .big) 0) (u .steps);
+      readable = readable;
+    }
+
+abbrev pub endIn : Bool → Public → Bool → Public
+endIn false u right = endedNext u Encrypt true (heldSize (paramsOf (u .variant)) (u .current))
+endIn true u right =
+    let p = paramsOf (u .variant) in
+    endedNext u Decrypt right (min (heldSize p (u .current) - p .key) (heldSize p (u .current)))
+
+abbrev pub endNext : AeadResult → Public → Bool → Public
+endNext (Err x) u right = u
+endNext (Ok n) u right = endIn (opening (u .current .phase)) (begunNext (u .current .phase) u) right
+
+-- reset
+abbrev pub resetOutside : Phase → Outside → Outside
+resetOutside Uninitialized initial = outside noMessage
+resetOutside (Init d) initial = initial
+resetOutside (Aad d) initial = initial
+resetOutside (Data Encrypt) initial = outside (finalPoint Encrypt)
+resetOutside (Data Decrypt) initial = initial
+resetOutside (Final Encrypt) initial = outside (finalPoint Encrypt)
+resetOutside (Final Decrypt) initial = initial
+
+-- The public state after a call, from the public state, the shape and the verdict.
+abbrev pub next : Public → Shape → Verdict → Public
+next u (Shape.start d key nonce size header) w =
+    startNext (startCheck (paramsOf (u .variant)) d key nonce size (yes w)) u d header
+next u (Shape.header n) w = headerNext (aadCheck (u .current .phase) n) u n
+next u (Shape.message n out) w =
+    dataNext (dataCheck (paramsOf (u .variant)) (u .current .phase) (u .current .held) n out) u n
+next u (Shape.end out) w =
+    endNext (endCheck (paramsOf (u .variant)) (u .current .phase) (u .current .held) out) u (yes w)
+next u Shape.reset w =
+    record {
+      variant = u .variant;
+      current = resetOutside (u .current .phase) (u .initial);
+      initial = u .initial;
+      steps = resetSteps (u .steps);
+      readable = false;
+    }
+next u Shape.tag w = u
+next u (Shape.update n) w = u
+next u (Shape.output n) w = u
+
+-- The outcome of a call.
+abbrev pub shows : Public → Shape → Verdict → Outcome
+shows u (Shape.start d key nonce size header) w =
+    startOutcome (startCheck (paramsOf (u .variant)) d key nonce size (yes w))
+shows u (Shape.header n) w = headerShows (aadCheck (u .current .phase) n)
+shows u (Shape.message n out) w =
+    outcome (dataCheck (paramsOf (u .variant)) (u .current .phase) (u .current .held) n out)
+shows u (Shape.end out) w =
+    endOutcome (endCheck (paramsOf (u .variant)) (u .current .phase) (u .current .held) out) (opening (u .current .phase)) (yes w)
+shows u Shape.reset w = ok 0
+shows u Shape.tag w = ok (cond (u .readable) (paramsOf (u .variant) .key) 0)
+shows u (Shape.update n) w = outcome (updateLen (paramsOf (u .variant)) (u .current .phase) (u .current .held) n)
+shows u (Shape.output n) w = outcome (totalLen (paramsOf (u .variant)) (u .current .phase) (u .current .held) n)
+
+-- The verdict, read off an outcome.
+abbrev pub isReuse : Outcome → Bool
+isReuse (ok n) = false
+isReuse (no []) = false
+isReuse (no (n ∷ values)) = eqb n 11
+
+abbrev pub isOk : Outcome → Bool
+isOk (ok n) = true
+isOk (no r) = false
+
+abbrev pub judged : Public → Shape → Outcome → Verdict
+judged u (Shape.start d key nonce size header) o =
+    startNote (startCheck (paramsOf (u .variant)) d key nonce size (isReuse o)) d (isReuse o)
+judged u (Shape.header n) o = None
+judged u (Shape.message n out) o = None
+judged u (Shape.end out) o =
+    endNote (endCheck (paramsOf (u .variant)) (u .current .phase) (u .current .held) out) (opening (u .current .phase)) (isOk o)
+judged u Shape.reset o = None
+judged u Shape.tag o = None
+judged u (Shape.update n) o = None
+judged u (Shape.output n) o = None
+
+-- ---- The engine's calls on the public state
+
+-- a start's check by its comparisons
+abbrev checkBy : ℕ → ℕ → ℕ → Bool → Bool → Bool → Direction → Bool → AeadInitResult
+checkBy key nonce size x y z d b =
+    cond x (StartErr (InvalidKeyLength key))
+    (cond y (StartErr (InvalidNonceLength nonce))
+    (cond z (StartErr (InvalidMacSize size)) (cond (opens d) StartOk (cond b (StartErr NonceReuse) StartOk))))
+
+module _ (key nonce size : ℕ) where
+  verdict-by : (x y z : Bool) (d : Direction) (b : Bool)
+      → checkBy key nonce size x y z d b
+      ≡ checkBy key nonce size x y z d (yes (startNote (checkBy key nonce size x y z d b) d b))
+  verdict-by true y z d b = refl
+  verdict-by false true z d b = refl
+  verdict-by false false true d b = refl
+  verdict-by false false false Decrypt b = refl
+  verdict-by false false false Encrypt true = refl
+  verdict-by false false false Encrypt false = refl
+
+  judged-by : (x y z : Bool) (d : Direction) (b : Bool)
+      → startNote (checkBy key nonce size x y z d b) d b
+      ≡ startNote (checkBy key nonce size x y z d (isReuse (startOutcome (checkBy key nonce size x y z d b)))) d
+      (isReuse (startOutcome (checkBy key nonce size x y z d b)))
+  judged-by true y z d b = refl
+  judged-by false true z d b = refl
+  judged-by false false true d b = refl
+  judged-by false false false Decrypt b = refl
+  judged-by false false false Encrypt true = refl
+  judged-by false false false Encrypt false = refl
+
+-- a start's check needs of the pair only what its verdict tells, and its outcome tells the verdict
+module _ (p : Params) (key nonce size : ℕ) (d : Direction) (b : Bool) where
+  pub start-verdict : startCheck p d key nonce size b
+      ≡ startCheck p d key nonce size (yes (startNote (startCheck p d key nonce size b) d b))
+  unfolding startCheck
+  start-verdict =
+      verdict-by key nonce size (not (eqb key (p .key))) (not (eqb nonce (p .rate))) (not (eqb size (p .key))) d b
+
+  start-judged : startNote (startCheck p d key nonce size b) d b
+      ≡ startNote (startCheck p d key nonce size (isReuse (startOutcome (startCheck p d key nonce size b)))) d
+      (isReuse (startOutcome (startCheck p d key nonce size b)))
+  unfolding startCheck
+  start-judged =
+      judged-by key nonce size (not (eqb key (p .key))) (not (eqb nonce (p .rate))) (not (eqb size (p .key))) d b
+
+-- an end's answer and the public state after it need of the tag only what the verdict tells
+end-verdict : (k : AeadResult) (u : Public) (right : Bool)
+    → endNext k u right ≡ endNext k u (yes (endNote k (opening (u .current .phase)) right))
+end-verdict (Err x) u right = refl
+end-verdict (Ok n) u right = by (opening (u .current .phase)) right
+  where
+    by : (o right : Bool) → endIn o (begunNext (u .current .phase) u) right
+        ≡ endIn o (begunNext (u .current .phase) u) (yes (cond o (verdictOf right) None))
+    by true true = refl
+    by true false = refl
+    by false right = refl
+
+end-verdict-shows : (k : AeadResult) (o right : Bool) → endOutcome k o right ≡ endOutcome k o (yes (endNote k o right))
+end-verdict-shows (Err x) o right = refl
+end-verdict-shows (Ok n) true true = refl
+end-verdict-shows (Ok n) true false = refl
+end-verdict-shows (Ok n) false right = refl
+
+end-judged : (k : AeadResult) (o right : Bool) → endNote k o right ≡ endNote k o (isOk (endOutcome k o right))
+end-judged (Err x) o right = refl
+end-judged (Ok n) true true = refl
+end-judged (Ok n) true false = refl
+end-judged (Ok n) false right = refl
+
+-- The parts of the calls.
+headed-public : (p : Params) (d : Direction) (at : Point) (header : List ℕ)
+    → outside (headed p d at header) ≡ headedNext p d (outside at) (length header)
+unfolding headed
+headed-public p d at [] = refl
+headed-public p d at (x ∷ header) = streamed-flowed p 0 _ (Aad d) at (x ∷ header)
+
+headedSteps-public : (p : Params) (at : Point) (header : List ℕ)
+    → headedSteps p at header ≡ headedCount p (outside at) (length header)
+unfolding headedSteps
+headedSteps-public p at header = rw (blocks-flowed p 0 at header)
+
+startPoint-public : (p : Params) (d : Direction) (key nonce : List ℕ) → outside (startPoint p d key nonce) ≡ startOutside d
+unfolding startPoint zeros
+startPoint-public p d key nonce = refl
+
+start-public : (k : AeadInitResult) (e : SparkleEngine) (d : Direction) (key nonce header : List ℕ)
+    → publicOf (initBy k e d key nonce header .engine) ≡ startNext k (publicOf e) d (length header)
+unfolding started refused noMac
+start-public (StartErr x) e d key nonce header = refl
+start-public StartOk e d key nonce header =
+    let p = paramsOf (e .variant) in
+    let at : outside (headed p d (startPoint p d key nonce) header) ≡ headedNext p d (startOutside d) (length header) =
+    headed-public p d (startPoint p d key nonce) header
+    ∙ ap (λ (q : Outside). headedNext p d q (length header)) (startPoint-public p d key nonce)
+    in
+    let n : headedSteps p (startPoint p d key nonce) header ≡ headedCount p (startOutside d) (length header) =
+    headedSteps-public p (startPoint p d key nonce) header
+    ∙ ap (λ (q : Outside). headedCount p q (length header)) (startPoint-public p d key nonce)
+    in
+    λ i.
+    record {
+      variant = e .variant;
+      current = at i;
+      initial = at i;
+      steps = initSteps ((p .big + n i) % 2 ^ 64);
+      readable = false;
+    }
+
+aadIn-public : (phase : Phase) (e : SparkleEngine) (input : List ℕ)
+    → publicOf (aadIn phase e input) ≡ headerIn phase (publicOf e) (length input)
+aadIn-public Uninitialized e input = refl
+aadIn-public (Init d) e input =
+    moved-public e _ _ _ _ (headed-public (paramsOf (e .variant)) d (e .current) input)
+    (headedSteps-public (paramsOf (e .variant)) (e .current) input)
+aadIn-public (Aad d) e input =
+    moved-public e _ _ _ _ (headed-public (paramsOf (e .variant)) d (e .current) input)
+    (headedSteps-public (paramsOf (e .variant)) (e .current) input)
+aadIn-public (Data d) e input = refl
+aadIn-public (Final d) e input = refl
+
+header-public : (k : AeadResult) (e : SparkleEngine) (input : List ℕ)
+    → publicOf (aadBy k e input .engine) ≡ headerNext k (publicOf e) (length input)
+header-public (Err x) e input = refl
+header-public (Ok n) e [] = refl
+header-public (Ok n) e (x ∷ input) = aadIn-public (e .current .phase) e (x ∷ input)
+
+header-shows : (k : AeadResult) (e : SparkleEngine) (input : List ℕ) → outcome (aadBy k e input .answer) ≡ headerShows k
+header-shows (Err x) e input = refl
+header-shows (Ok n) e [] = refl
+header-shows (Ok n) e (x ∷ input) = refl
+
+begun-public : (phase : Phase) (e : SparkleEngine) → publicOf (beginBy phase e) ≡ begunNext phase (publicOf e)
+unfolding zeros withoutHeader afterHeader
+begun-public Uninitialized e = refl
+begun-public (Init d) e = moved-public e _ _ _ _ refl refl
+begun-public (Aad d) e = moved-public e _ _ _ _ refl refl
+begun-public (Data d) e = refl
+begun-public (Final d) e = refl
+
+beginData-public : (e : SparkleEngine) → publicOf (beginData e) ≡ begunNext (e .current .phase) (publicOf e)
+unfolding beginData
+beginData-public e = begun-public (e .current .phase) e
+
+dataIn-public : (e : SparkleEngine) (input : List ℕ) → publicOf (dataIn e input) ≡ dataIntake (publicOf e) (length input)
+unfolding dataIn
+dataIn-public e input =
+    let p = paramsOf (e .variant) in
+    let k = keep p (e .current .phase) in
+    moved-public e _ _ _ _ (streamed-flowed p k _ (e .current .phase) (e .current) input)
+    (ap (λ (n : ℕ). n * p .slim) (blocks-flowed p k (e .current) input))
+
+data-public : (k : AeadResult) (e : SparkleEngine) (input : List ℕ)
+    → publicOf (dataBy k e input .engine) ≡ dataNext k (publicOf e) (length input)
+data-public (Err x) e input = refl
+data-public (Ok n) e input =
+    dataIn-public (beginData e) input ∙ ap (λ (u : Public). dataIntake u (length input)) (beginData-public e)
+
+data-shows : (k : AeadResult) (e : SparkleEngine) (input : List ℕ) → outcome (dataBy k e input .answer) ≡ outcome k
+data-shows (Err x) e input = refl
+data-shows (Ok n) e input = refl
+
+length-openBlock : (e : SparkleEngine)
+    → length (openBlock e)
+    ≡ min (heldSize (paramsOf (e .variant)) (outside (e .current)) - paramsOf (e .variant) .key)
+    (heldSize (paramsOf (e .variant)) (outside (e .current)))
+unfolding openBlock
+length-openBlock e = rw (length-take, length-heldBytes)
+
+-- whether an engine's received tag is the one that it computes
+abbrev right : SparkleEngine → Bool
+right e = same (receivedTag e) (openTag e)
+
+openEnd-public : (b : Bool) (e : SparkleEngine) (n : ℕ)
+    → publicOf (openEndBy b e n .engine) ≡ endIn true (publicOf e) b
+unfolding ended lastSteps readable noMac
+openEnd-public true e n = rw (length-openBlock e)
+openEnd-public false e n = rw (length-openBlock e)
+
+endIn-public : (o : Bool) (e : SparkleEngine) (n : ℕ)
+    → publicOf (cond o (openEnd e n) (sealEnd e n) .engine) ≡ endIn o (publicOf e) (right e)
+unfolding openEnd sealEnd ended lastSteps readable
+endIn-public true e n = openEnd-public (right e) e n
+endIn-public false e n = rw (length-heldBytes (paramsOf (e .variant)) (e .current))
+
+end-public : (k : AeadResult) (e : SparkleEngine)
+    → publicOf (finalBy k e .engine) ≡ endNext k (publicOf e) (right (beginData e))
+end-public (Err x) e = refl
+end-public (Ok n) e =
+    endIn-public (opening (e .current .phase)) (beginData e) n
+    ∙ ap (λ (u : Public). endIn (opening (e .current .phase)) u (right (beginData e))) (beginData-public e)
+
+openEnd-shows : (b : Bool) (e : SparkleEngine) (n : ℕ) → outcome (openEndBy b e n .answer) ≡ openOutcome b n
+openEnd-shows true e n = refl
+openEnd-shows false e n = refl
+
+endIn-shows : (o : Bool) (e : SparkleEngine) (n : ℕ)
+    → outcome (cond o (openEnd e n) (sealEnd e n) .answer) ≡ endOutcome (Ok n) o (right e)
+unfolding openEnd sealEnd
+endIn-shows true e n = openEnd-shows (right e) e n
+endIn-shows false e n = refl
+
+end-shows : (k : AeadResult) (e : SparkleEngine)
+    → outcome (finalBy k e .answer) ≡ endOutcome k (opening (e .current .phase)) (right (beginData e))
+end-shows (Err x) e = refl
+end-shows (Ok n) e = endIn-shows (opening (e .current .phase)) (beginData e) n
+
+resetPoint-public : (phase : Phase) (at : Point) → outside (resetPoint phase at) ≡ resetOutside phase (outside at)
+resetPoint-public Uninitialized at = refl
+resetPoint-public (Init d) at = refl
+resetPoint-public (Aad d) at = refl
+resetPoint-public (Data Encrypt) at = refl
+resetPoint-public (Data Decrypt) at = refl
+resetPoint-public (Final Encrypt) at = refl
+resetPoint-public (Final Decrypt) at = refl
+
+reset-public : (e : SparkleEngine) → publicOf (resetEngine e) ≡ next (publicOf e) Shape.reset None
+unfolding resetEngine noMac
+reset-public e = rw (resetPoint-public (e .current .phase) (e .initial))
+
+start-shows : (k : AeadInitResult) (e : SparkleEngine) (d : Direction) (key nonce header : List ℕ)
+    → startOutcome (initBy k e d key nonce header .answer) ≡ startOutcome k
+start-shows (StartErr x) e d key nonce header = refl
+start-shows StartOk e d key nonce header = refl
+
+mac-readable : (e : SparkleEngine) → macOf e .readable ≡ e .mac .readable
+unfolding macOf noMac
+mac-readable e = go (e .mac .readable) refl
+  where
+    go : (b : Bool) → e .mac .readable ≡ b → cond b (e .mac) noMac .readable ≡ b
+    go true q = q
+    go false q = refl
+
+-- ---- The three functions tell what the engine does
+
+pub next-is : (e : SparkleEngine) (c : Call) → publicOf (step e c .engine) ≡ next (publicOf e) (shape c) (asked e c)
+unfolding step asked init processAadBytes processBytes doFinal
+next-is e (Call.start d key nonce size header) =
+    let p = paramsOf (e .variant) in
+    let b = repeats p (e .pair) key nonce in
+    start-public (startCheck p d (length key) (length nonce) size b) e d key nonce header
+    ∙ ap (λ (k : AeadInitResult). startNext k (publicOf e) d (length header))
+    (start-verdict p (length key) (length nonce) size d b)
+next-is e (Call.header input) = header-public (aadCheck (e .current .phase) (length input)) e input
+next-is e (Call.message input out) = data-public (dataAnswer e (length input) (length out)) e input
+next-is e (Call.end out) =
+    end-public (finalAnswer e (length out)) e
+    ∙ end-verdict (finalAnswer e (length out)) (publicOf e) (right (beginData e))
+next-is e Call.reset = reset-public e
+next-is e Call.tag = refl
+next-is e (Call.update n) = refl
+next-is e (Call.output n) = refl
+
+pub shows-is : (e : SparkleEngine) (c : Call) → step e c .outcome ≡ shows (publicOf e) (shape c) (asked e c)
+unfolding step asked init processAadBytes processBytes doFinal updateOutputLen outputLen
+shows-is e (Call.start d key nonce size header) =
+    let p = paramsOf (e .variant) in
+    let b = repeats p (e .pair) key nonce in
+    start-shows (startCheck p d (length key) (length nonce) size b) e d key nonce header
+    ∙ ap startOutcome (start-verdict p (length key) (length nonce) size d b)
+shows-is e (Call.header input) = header-shows (aadCheck (e .current .phase) (length input)) e input
+shows-is e (Call.message input out) = data-shows (dataAnswer e (length input) (length out)) e input
+shows-is e (Call.end out) =
+    end-shows (finalAnswer e (length out)) e
+    ∙ end-verdict-shows (finalAnswer e (length out)) (opening (e .current .phase)) (right (beginData e))
+shows-is e Call.reset = refl
+shows-is e Call.tag = rw (mac-readable e)
+shows-is e (Call.update n) = refl
+shows-is e (Call.output n) = refl
+
+pub judged-is : (e : SparkleEngine) (c : Call) → asked e c ≡ judged (publicOf e) (shape c) (step e c .outcome)
+unfolding step asked init doFinal
+judged-is e (Call.start d key nonce size header) =
+    let p = paramsOf (e .variant) in
+    let b = repeats p (e .pair) key nonce in
+    rw (start-shows (startCheck p d (length key) (length nonce) size b) e d key nonce header)
+    (start-judged p (length key) (length nonce) size d b)
+judged-is e (Call.header input) = refl
+judged-is e (Call.message input out) = refl
+judged-is e (Call.end out) =
+    rw (end-shows (finalAnswer e (length out)) e)
+    (end-judged (finalAnswer e (length out)) (opening (e .current .phase)) (right (beginData e)))
+judged-is e Call.reset = refl
+judged-is e Call.tag = refl
+judged-is e (Call.update n) = refl
+judged-is e (Call.output n) = refl
+
+-- The line of a call, from the public state, the shape and the verdict.
+abbrev pub lineBy : Public → Shape → Verdict → Line
+lineBy u s w = record { outcome = shows u s w; steps = next u s w .steps .current; readable = next u s w .readable }
+
+pub line-is : (e : SparkleEngine) (c : Call) → line (step e c) ≡ lineBy (publicOf e) (shape c) (asked e c)
+unfolding line stepsNow
+line-is e c = rw (mac-readable (step e c .engine), shows-is e c, ← next-is e c)

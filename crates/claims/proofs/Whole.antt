@@ -1,0 +1,598 @@
+-- Whole messages: the bytes that a list of calls writes, concatenated, are the specification's, however header and data
+-- are cut and whatever refused calls and queries stand between.
+use mathlib.Core.Path.{_≡_, refl, sym, ap, ap₂, subst, _∙_}
+use mathlib.Core.Bool.{Bool, true, false, cond}
+use mathlib.Core.List.{List, [], _∷_, _++_, append-assoc, append-nil}
+use Prim.Native.Nat.{ℕ}
+use native.Mathlib.Omega.{arith}
+use lib.ListN.{length, take}
+use lib.Seq.{take-nil}
+use Rattle.schwaemm.specs.Blocks.{given}
+use Rattle.schwaemm.specs.Schwaemm.{Params, crypt, prepared, messageBlock, decrypt, seal, body as bodyOf, verified}
+use Rattle.tc_sparkle_aead.specs.declared.variant.SparkleVariant.{SparkleVariant}
+use Rattle.tc_sparkle_aead.specs.declared.phase.Direction.{Direction}
+use Rattle.tc_sparkle_aead.specs.declared.phase.Direction.the-variants.{Encrypt, Decrypt}
+use Rattle.tc_sparkle_aead.specs.declared.phase.Phase.{Phase}
+use Rattle.tc_sparkle_aead.specs.declared.phase.Phase.the-variants.{Uninitialized, Init, Aad, Data, Final}
+use Rattle.tc_sparkle_aead.specs.declared.aead_error.AeadResult.{AeadResult}
+use Rattle.tc_sparkle_aead.specs.declared.aead_error.AeadResult.the-variants.{Ok, Err}
+use Rattle.tc_sparkle_aead.specs.declared.aead_init_error.AeadInitResult.{AeadInitResult}
+use Rattle.tc_sparkle_aead.specs.declared.aead_init_error.AeadInitResult.the-variants.{Ok as StartOk, Err as StartErr}
+use Rattle.tc_sparkle_aead.specs.declared.engine.Mac.{Mac}
+use Rattle.tc_sparkle_aead.specs.declared.engine.SparkleEngine.{SparkleEngine}
+use Rattle.tc_sparkle_aead.specs.Variant.{paramsOf}
+use Rattle.tc_sparkle_aead.specs.Refusals.{refusal}
+use Rattle.tc_sparkle_aead.specs.Checks.{opening, keep, aadCheck, headerCheck, dataCheck, endCheck, startCheck}
+use Rattle.tc_sparkle_aead.specs.Engine.{repeats}
+use Rattle.tc_sparkle_aead.specs.Calls.{plainOf, initBy, init, aadBy, processAadBytes}
+use Rattle.tc_sparkle_aead.proofs.VariantLaws.{small}
+use Rattle.claims.specs.Call.{Call, Left, step, runFrom, run, Outcome, outcome, startOutcome}
+use Rattle.claims.specs.Reader.{Reader, heldOf, headerPhase, repeated, aadPhase, dataPhase, readHeader, readMessage, readStart, readEnd, read, readFrom, reader}
+use Rattle.claims.proofs.Points.{ready-zero}
+use Rattle.claims.proofs.Kept.{Follows, Standing, pairIn, engineOf, repeats-agree}
+use Rattle.claims.proofs.Follows.{Takes, kept, follows-step, follows-from, follows-run, aad-some, header-answer}
+use Rattle.claims.proofs.Accepted.{released, Writes, takes-opening}
+use Rattle.claims.proofs.Written.{message-outcome, message-writes-next, seal-end, open-end, end-refused}
+
+-- ---- The bytes of a list of calls
+
+-- What a call wrote: its buffer up to the count that it answers.
+abbrev pub countOf : Outcome → ℕ
+countOf (Outcome.ok n) = n
+countOf (Outcome.no values) = 0
+
+unfoldable pub wrote : Left → List ℕ
+wrote l = take (countOf (l .outcome)) (l .buffer)
+
+unfoldable pub outputs : SparkleEngine → List Call → List ℕ
+outputs e [] = []
+outputs e (c ∷ calls) = wrote (step e c) ++ outputs (step e c .engine) calls
+
+pub outputs-append : (e : SparkleEngine) (xs ys : List Call) → outputs e (xs ++ ys)
+    ≡ outputs e xs ++ outputs (runFrom e xs) ys
+unfolding outputs runFrom
+outputs-append e [] ys = refl
+outputs-append e (c ∷ xs) ys =
+    ap (λ (l : List ℕ). wrote (step e c) ++ l) (outputs-append (step e c .engine) xs ys)
+    ∙ sym (append-assoc (wrote (step e c)) (outputs (step e c .engine) xs) (outputs (runFrom (step e c .engine) xs) ys))
+
+-- ---- Between start and end
+
+-- An answer of a check: not 6, which ends a message.
+abbrev pub Refused : Outcome → Type 0
+Refused o = (values : List ℕ) × (o ≡ Outcome.no values) × (values ≡ 6 ∷ [] → ⊥)
+
+-- Header calls, data calls, queries, mac, and ends that the checks refuse.
+abbrev pub Between : SparkleEngine → Call → Type 0
+Between e (Call.start d key nonce size h) = ⊥
+Between e (Call.header input) = Unit {0}
+Between e (Call.message input out) = Unit {0}
+Between e (Call.end out) = Refused (step e (Call.end out) .outcome)
+Between e Call.reset = ⊥
+Between e Call.tag = Unit {0}
+Between e (Call.update n) = Unit {0}
+Between e (Call.output n) = Unit {0}
+
+abbrev pub Betweens : SparkleEngine → List Call → Type 0
+Betweens e [] = Unit {0}
+Betweens e (c ∷ calls) = Between e c × Betweens (step e c .engine) calls
+
+-- Every call of a list.
+abbrev pub Each : (Call → Type 0) → List Call → Type 0
+Each P [] = Unit {0}
+Each P (c ∷ calls) = P c × Each P calls
+
+-- What a header call and a data call bring.
+abbrev pub headerIn : Call → List ℕ
+headerIn (Call.start d key nonce size h) = []
+headerIn (Call.header input) = input
+headerIn (Call.message input out) = []
+headerIn (Call.end out) = []
+headerIn Call.reset = []
+headerIn Call.tag = []
+headerIn (Call.update n) = []
+headerIn (Call.output n) = []
+
+abbrev pub dataOf : Call → List ℕ
+dataOf (Call.start d key nonce size h) = []
+dataOf (Call.header input) = []
+dataOf (Call.message input out) = input
+dataOf (Call.end out) = []
+dataOf Call.reset = []
+dataOf Call.tag = []
+dataOf (Call.update n) = []
+dataOf (Call.output n) = []
+
+-- What of a list's header calls and data calls was taken: the inputs of those that were not refused.
+abbrev pub ifOk : Outcome → List ℕ → List ℕ
+ifOk (Outcome.ok n) l = l
+ifOk (Outcome.no values) l = []
+
+unfoldable pub takenHeader : SparkleEngine → List Call → List ℕ
+takenHeader e [] = []
+takenHeader e (c ∷ calls) = ifOk (step e c .outcome) (headerIn c) ++ takenHeader (step e c .engine) calls
+
+unfoldable pub takenData : SparkleEngine → List Call → List ℕ
+takenData e [] = []
+takenData e (c ∷ calls) = ifOk (step e c .outcome) (dataOf c) ++ takenData (step e c .engine) calls
+
+-- an end that the checks refuse changes nothing
+not-passed : (g : Bool) (n : ℕ) (o : Outcome) → o ≡ cond g (Outcome.ok n) (Outcome.no (6 ∷ [])) → Refused o → ⊥
+not-passed true n o e f = let h = f .1 in let z : _≡_ {A = ℕ} 0 1 = cc in omega arith
+not-passed false n o e f = let h = f .1 in f .2 (cc)
+
+pub end-unread : (v : SparkleVariant) (e : SparkleEngine) (r : Reader) → Follows v e r → (out : List ℕ)
+    → Refused (step e (Call.end out) .outcome) → read (paramsOf v) r (Call.end out) .reader ≡ r
+unfolding read
+end-unread v e r w out f =
+    by (endCheck (paramsOf v) (r .phase) (heldOf (paramsOf v) r) (length out)) refl (opening (r .phase)) refl
+  where
+    by : (k : AeadResult) → endCheck (paramsOf v) (r .phase) (heldOf (paramsOf v) r) (length out) ≡ k
+        → (o : Bool) → opening (r .phase) ≡ o → read (paramsOf v) r (Call.end out) .reader ≡ r
+    by (Err x) q o is = ap (λ (k : AeadResult). readEnd k (paramsOf v) r .reader) q
+    by (Ok n) q true is =
+        absurd (not-passed (verified (paramsOf v) (r .key) (r .nonce) (r .header) (r .body)) n _
+        (open-end v e r w out n q is .outcome-is) f)
+    by (Ok n) q false is = absurd (not-passed true n _ (seal-end v e r w out n q is .outcome-is) f)
+
+-- a message is going on, in a direction, under a key and a nonce
+pub record Going (d : Direction) (key nonce : List ℕ) (r : Reader) : Type 0 where
+  pub takes : Takes d (r .phase)
+  pub key-is : r .key ≡ key
+  pub nonce-is : r .nonce ≡ nonce
+
+takes-header : {d : Direction} {phase : Phase} → Takes d phase → (input : List ℕ) → Takes d (aadPhase phase input)
+takes-header t [] = t
+takes-header Takes.takes-init (x ∷ input) = Takes.takes-aad
+takes-header Takes.takes-aad (x ∷ input) = Takes.takes-aad
+takes-header Takes.takes-data (x ∷ input) = Takes.takes-data
+
+pub takes-message : {d : Direction} {phase : Phase} → Takes d phase → Takes d (dataPhase phase)
+takes-message Takes.takes-init = Takes.takes-data
+takes-message Takes.takes-aad = Takes.takes-data
+takes-message Takes.takes-data = Takes.takes-data
+
+module _ (d : Direction) (key nonce : List ℕ) where
+  going-header : (r : Reader) (input : List ℕ) (k : AeadResult) → Going d key nonce r
+      → Going d key nonce (readHeader k r input .reader)
+  going-header r input (Ok n) g =
+      record { takes = takes-header (g .takes) input; key-is = g .key-is; nonce-is = g .nonce-is }
+  going-header r input (Err x) g = g
+
+  going-message : (r : Reader) (input : List ℕ) (k : AeadResult) → Going d key nonce r
+      → Going d key nonce (readMessage k r input .reader)
+  going-message r input (Ok n) g = record { takes = takes-message (g .takes); key-is = g .key-is; nonce-is = g .nonce-is }
+  going-message r input (Err x) g = g
+
+  pub going-step : (v : SparkleVariant) (e : SparkleEngine) (r : Reader) → Follows v e r → (c : Call) → Between e c
+      → Going d key nonce r → Going d key nonce (read (paramsOf v) r c .reader)
+  unfolding read
+  going-step v e r w (Call.start d' k n size h) b g = absurd b
+  going-step v e r w (Call.header input) b g = going-header r input (aadCheck (r .phase) (length input)) g
+  going-step v e r w (Call.message input out) b g =
+      going-message r input (dataCheck (paramsOf v) (r .phase) (heldOf (paramsOf v) r) (length input) (length out)) g
+  going-step v e r w (Call.end out) b g = subst (Going d key nonce) (sym (end-unread v e r w out b)) g
+  going-step v e r w Call.reset b g = absurd b
+  going-step v e r w Call.tag b g = g
+  going-step v e r w (Call.update n) b g = g
+  going-step v e r w (Call.output n) b g = g
+
+  pub going-from : (v : SparkleVariant) (e : SparkleEngine) (r : Reader) → Follows v e r → (calls : List Call) → Betweens e calls
+      → Going d key nonce r → Going d key nonce (readFrom (paramsOf v) r calls)
+  unfolding readFrom
+  going-from v e r w [] b g = g
+  going-from v e r w (c ∷ calls) b g =
+      going-from v (step e c .engine) (read (paramsOf v) r c .reader) (follows-step v e r w c) calls (b .1)
+      (going-step v e r w c (b .0) g)
+
+-- before the data nothing is given
+released-none : (p : Params) (loaded : Bool) (key nonce initial : List ℕ) (phase : Phase) (header body : List ℕ) → body ≡ []
+    → released p (kept loaded key nonce initial phase header body) ≡ []
+unfolding released given
+released-none p loaded key nonce initial phase header body e =
+    ap (λ (b : List ℕ). released p (kept loaded key nonce initial phase header b)) e
+    ∙ ap (λ (n : ℕ). given (p .rate) (messageBlock p (plainOf p phase)) (crypt p) n (prepared p key nonce header) [])
+    (ready-zero (p .rate) (keep p phase))
+
+-- nothing comes of calls without a buffer
+wrote-none : (l : Left) → l .buffer ≡ [] → wrote l ≡ []
+unfolding wrote
+wrote-none l e = ap (take (countOf (l .outcome))) e ∙ take-nil (countOf (l .outcome))
+
+wrote-refused : (l : Left) (values : List ℕ) → l .outcome ≡ Outcome.no values → wrote l ≡ []
+unfolding wrote
+wrote-refused l values o = ap (λ (x : Outcome). take (countOf x) (l .buffer)) o
+
+unwritten : (a b : List ℕ) → b ≡ [] → a ≡ a ++ b
+unwritten a b e = sym (append-nil a) ∙ ap (λ (l : List ℕ). a ++ l) (sym e)
+
+-- a header call gives nothing
+released-more : (p : Params) (phase : Phase) (loaded : Bool) (key nonce initial header body : List ℕ) (mac : Mac) (n : ℕ)
+    → Standing p phase loaded key nonce initial header body mac n → (x : ℕ) (input : List ℕ)
+    → released p (readHeader (headerCheck phase) (kept loaded key nonce initial phase header body) (x ∷ input) .reader)
+    ≡ released p (kept loaded key nonce initial phase header body)
+released-more p Uninitialized loaded key nonce initial header body mac n st x input = refl
+released-more p (Init d) loaded key nonce initial header body mac n st x input =
+    released-none p loaded key nonce initial (Aad d) (header ++ (x ∷ input)) body (st .4)
+    ∙ sym (released-none p loaded key nonce initial (Init d) header body (st .4))
+released-more p (Aad d) loaded key nonce initial header body mac n st x input =
+    released-none p loaded key nonce initial (Aad d) (header ++ (x ∷ input)) body (st .4)
+    ∙ sym (released-none p loaded key nonce initial (Aad d) header body (st .4))
+released-more p (Data d) loaded key nonce initial header body mac n st x input = refl
+released-more p (Final d) loaded key nonce initial header body mac n st x input = refl
+
+released-header : (v : SparkleVariant) (e : SparkleEngine) (r : Reader) → Follows v e r → (input : List ℕ)
+    → released (paramsOf v) (read (paramsOf v) r (Call.header input) .reader) ≡ released (paramsOf v) r
+unfolding read aadCheck
+released-header v e r w [] =
+    ap (λ (l : List ℕ). released (paramsOf v) (kept (r .loaded) (r .key) (r .nonce) (r .initial) (r .phase) l (r .body)))
+    (append-nil (r .header))
+released-header v e r w (x ∷ input) =
+    ap (λ (k : AeadResult). released (paramsOf v) (readHeader k r (x ∷ input) .reader)) (aad-some (r .phase) (length input))
+    ∙ released-more (paramsOf v) (r .phase) (r .loaded) (r .key) (r .nonce) (r .initial) (r .header) (r .body) (w .mac)
+    (w .count) (w .standing) x input
+
+-- a data call gives what it wrote
+released-message : (v : SparkleVariant) (e : SparkleEngine) (r : Reader) → Follows v e r → (input out : List ℕ)
+    → released (paramsOf v) (read (paramsOf v) r (Call.message input out) .reader)
+    ≡ released (paramsOf v) r ++ wrote (step e (Call.message input out))
+unfolding wrote read
+released-message v e r w input out =
+    by (dataCheck (paramsOf v) (r .phase) (heldOf (paramsOf v) r) (length input) (length out)) refl
+  where
+    by : (k : AeadResult) → dataCheck (paramsOf v) (r .phase) (heldOf (paramsOf v) r) (length input) (length out) ≡ k
+        → released (paramsOf v) (read (paramsOf v) r (Call.message input out) .reader)
+        ≡ released (paramsOf v) r ++ wrote (step e (Call.message input out))
+    by (Ok n) h =
+        let o : step e (Call.message input out) .outcome ≡ Outcome.ok n = message-outcome v e r w input out ∙ ap outcome h in
+        let q = message-writes-next v e r w input out n o in
+        q .bytes ∙ ap (λ (x : Outcome). released (paramsOf v) r ++ take (countOf x)
+        (step e (Call.message input out) .buffer)) (sym o)
+    by (Err x) h =
+        let o : step e (Call.message input out) .outcome ≡ Outcome.no (refusal x) =
+        message-outcome v e r w input out ∙ ap outcome h in
+        ap (λ (k : AeadResult). released (paramsOf v) (readMessage k r input .reader)) h
+        ∙ unwritten (released (paramsOf v) r) _ (ap (λ (y : Outcome). take (countOf y) (step e (Call.message input out) .buffer)) o)
+
+-- what calls between start and end give is what they wrote
+released-step : (v : SparkleVariant) (e : SparkleEngine) (r : Reader) → Follows v e r → (c : Call) → Between e c
+    → released (paramsOf v) (read (paramsOf v) r c .reader) ≡ released (paramsOf v) r ++ wrote (step e c)
+unfolding step
+released-step v e r w (Call.start d key nonce size h) b = absurd b
+released-step v e r w (Call.header input) b =
+    released-header v e r w input ∙ unwritten (released (paramsOf v) r) _ (wrote-none (step e (Call.header input)) refl)
+released-step v e r w (Call.message input out) b = released-message v e r w input out
+released-step v e r w (Call.end out) b =
+    ap (released (paramsOf v)) (end-unread v e r w out b)
+    ∙ unwritten (released (paramsOf v) r) _ (wrote-refused (step e (Call.end out)) (b .0) (b .1))
+released-step v e r w Call.reset b = absurd b
+released-step v e r w Call.tag b = unfold read in unwritten (released (paramsOf v) r) _ (wrote-none (step e Call.tag) refl)
+released-step v e r w (Call.update n) b =
+    unfold read in unwritten (released (paramsOf v) r) _ (wrote-none (step e (Call.update n)) refl)
+released-step v e r w (Call.output n) b =
+    unfold read in unwritten (released (paramsOf v) r) _ (wrote-none (step e (Call.output n)) refl)
+
+released-from : (v : SparkleVariant) (e : SparkleEngine) (r : Reader) → Follows v e r → (calls : List Call)
+    → Betweens e calls
+    → released (paramsOf v) (readFrom (paramsOf v) r calls) ≡ released (paramsOf v) r ++ outputs e calls
+unfolding readFrom outputs
+released-from v e r w [] b = sym (append-nil (released (paramsOf v) r))
+released-from v e r w (c ∷ calls) b =
+    released-from v (step e c .engine) (read (paramsOf v) r c .reader) (follows-step v e r w c) calls (b .1)
+    ∙ ap (λ (l : List ℕ). l ++ outputs (step e c .engine) calls) (released-step v e r w c (b .0))
+    ∙ append-assoc (released (paramsOf v) r) (wrote (step e c)) (outputs (step e c .engine) calls)
+
+-- ---- What was taken is what the reader keeps
+
+header-by : (k : AeadResult) (e : SparkleEngine) (r : Reader) (input : List ℕ)
+    → readHeader k r input .reader .header ≡ r .header ++ ifOk (outcome (aadBy k e input .answer)) input
+header-by (Ok n) e r [] = refl
+header-by (Ok n) e r (x ∷ input) = refl
+header-by (Err x) e r input = sym (append-nil (r .header))
+
+header-body-by : (k : AeadResult) (r : Reader) (input : List ℕ) → readHeader k r input .reader .body ≡ r .body
+header-body-by (Ok n) r input = refl
+header-body-by (Err x) r input = refl
+
+data-by : (k : AeadResult) (r : Reader) (input : List ℕ) → readMessage k r input .reader .body
+    ≡ r .body ++ ifOk (outcome k) input
+data-by (Ok n) r input = refl
+data-by (Err x) r input = sym (append-nil (r .body))
+
+data-header-by : (k : AeadResult) (r : Reader) (input : List ℕ) → readMessage k r input .reader .header ≡ r .header
+data-header-by (Ok n) r input = refl
+data-header-by (Err x) r input = refl
+
+if-none : (o : Outcome) → ifOk o [] ≡ []
+if-none (Outcome.ok n) = refl
+if-none (Outcome.no values) = refl
+
+same-kept : (a b : List ℕ) (o : Outcome) → a ≡ b → a ≡ b ++ ifOk o []
+same-kept a b o e = e ∙ unwritten b (ifOk o []) (if-none o)
+
+pub header-outcome : (v : SparkleVariant) (e : SparkleEngine) (r : Reader) (w : Follows v e r) (input : List ℕ)
+    → step e (Call.header input) .outcome
+    ≡ outcome (aadBy (aadCheck (r .phase) (length input)) (engineOf v r (w .mac) (w .count)) input .answer)
+unfolding step processAadBytes
+header-outcome v e r w input =
+    let K = engineOf v r (w .mac) (w .count) in
+    ap (λ (x : SparkleEngine). outcome (aadBy (aadCheck (x .current .phase) (length input)) x input .answer))
+    (w .same-engine)
+    ∙ ap (λ (k : AeadResult). outcome (aadBy k K input .answer)) (header-answer v r (w .mac) (w .count) (length input))
+
+header-step-taken : (v : SparkleVariant) (e : SparkleEngine) (r : Reader) → Follows v e r → (c : Call) → Between e c
+    → read (paramsOf v) r c .reader .header ≡ r .header ++ ifOk (step e c .outcome) (headerIn c)
+unfolding read
+header-step-taken v e r w (Call.start d key nonce size h) b = absurd b
+header-step-taken v e r w (Call.header input) b =
+    header-by (aadCheck (r .phase) (length input)) (engineOf v r (w .mac) (w .count)) r input
+    ∙ ap (λ (o : Outcome). r .header ++ ifOk o input) (sym (header-outcome v e r w input))
+header-step-taken v e r w (Call.message input out) b =
+    same-kept _ (r .header) (step e (Call.message input out) .outcome)
+    (data-header-by (dataCheck (paramsOf v) (r .phase) (heldOf (paramsOf v) r) (length input) (length out)) r input)
+header-step-taken v e r w (Call.end out) b =
+    same-kept _ (r .header) (step e (Call.end out) .outcome) (ap (λ (x : Reader). x .header) (end-unread v e r w out b))
+header-step-taken v e r w Call.reset b = absurd b
+header-step-taken v e r w Call.tag b = same-kept (r .header) (r .header) (step e Call.tag .outcome) refl
+header-step-taken v e r w (Call.update n) b = same-kept (r .header) (r .header) (step e (Call.update n) .outcome) refl
+header-step-taken v e r w (Call.output n) b = same-kept (r .header) (r .header) (step e (Call.output n) .outcome) refl
+
+data-step-taken : (v : SparkleVariant) (e : SparkleEngine) (r : Reader) → Follows v e r → (c : Call) → Between e c
+    → read (paramsOf v) r c .reader .body ≡ r .body ++ ifOk (step e c .outcome) (dataOf c)
+unfolding read
+data-step-taken v e r w (Call.start d key nonce size h) b = absurd b
+data-step-taken v e r w (Call.header input) b =
+    same-kept _ (r .body) (step e (Call.header input) .outcome) (header-body-by (aadCheck (r .phase) (length input)) r input)
+data-step-taken v e r w (Call.message input out) b =
+    data-by (dataCheck (paramsOf v) (r .phase) (heldOf (paramsOf v) r) (length input) (length out)) r input
+    ∙ ap (λ (o : Outcome). r .body ++ ifOk o input) (sym (message-outcome v e r w input out))
+data-step-taken v e r w (Call.end out) b =
+    same-kept _ (r .body) (step e (Call.end out) .outcome) (ap (λ (x : Reader). x .body) (end-unread v e r w out b))
+data-step-taken v e r w Call.reset b = absurd b
+data-step-taken v e r w Call.tag b = same-kept (r .body) (r .body) (step e Call.tag .outcome) refl
+data-step-taken v e r w (Call.update n) b = same-kept (r .body) (r .body) (step e (Call.update n) .outcome) refl
+data-step-taken v e r w (Call.output n) b = same-kept (r .body) (r .body) (step e (Call.output n) .outcome) refl
+
+header-taken-from : (v : SparkleVariant) (e : SparkleEngine) (r : Reader) → Follows v e r → (calls : List Call)
+    → Betweens e calls
+    → readFrom (paramsOf v) r calls .header ≡ r .header ++ takenHeader e calls
+unfolding readFrom takenHeader
+header-taken-from v e r w [] b = sym (append-nil (r .header))
+header-taken-from v e r w (c ∷ calls) b =
+    header-taken-from v (step e c .engine) (read (paramsOf v) r c .reader) (follows-step v e r w c) calls (b .1)
+    ∙ ap (λ (l : List ℕ). l ++ takenHeader (step e c .engine) calls) (header-step-taken v e r w c (b .0))
+    ∙ append-assoc (r .header) (ifOk (step e c .outcome) (headerIn c)) (takenHeader (step e c .engine) calls)
+
+data-taken-from : (v : SparkleVariant) (e : SparkleEngine) (r : Reader) → Follows v e r → (calls : List Call)
+    → Betweens e calls
+    → readFrom (paramsOf v) r calls .body ≡ r .body ++ takenData e calls
+unfolding readFrom takenData
+data-taken-from v e r w [] b = sym (append-nil (r .body))
+data-taken-from v e r w (c ∷ calls) b =
+    data-taken-from v (step e c .engine) (read (paramsOf v) r c .reader) (follows-step v e r w c) calls (b .1)
+    ∙ ap (λ (l : List ℕ). l ++ takenData (step e c .engine) calls) (data-step-taken v e r w c (b .0))
+    ∙ append-assoc (r .body) (ifOk (step e c .outcome) (dataOf c)) (takenData (step e c .engine) calls)
+
+-- ---- A start
+
+-- The reader after a start that is taken.
+abbrev pub startedReader : Direction → (key nonce header : List ℕ) → Reader
+startedReader d key nonce header = kept true key nonce header (headerPhase d header) header []
+
+start-answered : (k : AeadInitResult) (e : SparkleEngine) (d : Direction) (key nonce header : List ℕ)
+    → initBy k e d key nonce header .answer ≡ k
+start-answered StartOk e d key nonce header = refl
+start-answered (StartErr x) e d key nonce header = refl
+
+pub start-outcome : (v : SparkleVariant) (e : SparkleEngine) (r : Reader) → Follows v e r
+    → (d : Direction) (key nonce : List ℕ) (size : ℕ) (h : List ℕ)
+    → step e (Call.start d key nonce size h) .outcome
+    ≡ startOutcome (startCheck (paramsOf v) d (length key) (length nonce) size (repeated r key nonce))
+unfolding step init
+start-outcome v e r w d key nonce size h =
+    let p = paramsOf v in
+    ap (λ (x : SparkleEngine). startOutcome (init x d key nonce size h .answer)) (w .same-engine)
+    ∙ ap startOutcome
+    (start-answered (startCheck p d (length key) (length nonce) size (repeats p (pairIn (r .loaded) (r .key) (r .nonce)) key nonce))
+    (engineOf v r (w .mac) (w .count)) d key nonce h)
+    ∙ ap (λ (b : Bool). startOutcome (startCheck p d (length key) (length nonce) size b))
+    (repeats-agree p (small v) (r .loaded) (r .key) (r .nonce) (w .fits) key nonce)
+
+start-read : (v : SparkleVariant) (e : SparkleEngine) (r : Reader) → Follows v e r
+    → (d : Direction) (key nonce : List ℕ) (size : ℕ) (h : List ℕ) (n : ℕ)
+    → step e (Call.start d key nonce size h) .outcome ≡ Outcome.ok n
+    → read (paramsOf v) r (Call.start d key nonce size h) .reader ≡ startedReader d key nonce h
+start-read v e r w d key nonce size h n o =
+    by (startCheck (paramsOf v) d (length key) (length nonce) size (repeated r key nonce)) refl
+  where
+    by : (k : AeadInitResult) → startCheck (paramsOf v) d (length key) (length nonce) size (repeated r key nonce) ≡ k
+        → read (paramsOf v) r (Call.start d key nonce size h) .reader ≡ startedReader d key nonce h
+    by StartOk q = unfold read in ap (λ (k : AeadInitResult). readStart k r d key nonce h .reader) q
+    by (StartErr x) q =
+        absurd (let s = sym o ∙ start-outcome v e r w d key nonce size h ∙ ap startOutcome q in let z : _≡_ {A = ℕ} 0 1 = cc in omega arith)
+
+started-going : (d : Direction) (key nonce header : List ℕ) → Going d key nonce (startedReader d key nonce header)
+started-going d key nonce [] = record { takes = Takes.takes-init; key-is = refl; nonce-is = refl }
+started-going d key nonce (x ∷ header) = record { takes = Takes.takes-aad; key-is = refl; nonce-is = refl }
+
+-- ---- Whole messages, of what was taken
+
+-- The engine after a start, and the reader after calls behind one that is taken.
+abbrev pub begunEngine : SparkleVariant → List Call → Direction → (key nonce : List ℕ) → ℕ
+    → (initial : List ℕ) → SparkleEngine
+begunEngine v before d key nonce size initial = step (run v before) (Call.start d key nonce size initial) .engine
+
+abbrev pub lastReader : SparkleVariant → Direction → (key nonce initial : List ℕ) → List Call → Reader
+lastReader v d key nonce initial between = readFrom (paramsOf v) (startedReader d key nonce initial) between
+
+module _ (v : SparkleVariant) (before : List Call) (d : Direction) (key nonce : List ℕ) (size : ℕ) (initial : List ℕ)
+    (between : List Call) (out : List ℕ) where
+  module _ (k : ℕ) (taken : step (run v before) (Call.start d key nonce size initial) .outcome ≡ Outcome.ok k)
+      (b : Betweens (begunEngine v before d key nonce size initial) between) where
+    pub begun-follows : Follows v (begunEngine v before d key nonce size initial) (startedReader d key nonce initial)
+    begun-follows =
+        let w = follows-run v before in
+        subst (Follows v (begunEngine v before d key nonce size initial))
+        (start-read v (run v before) (reader v before) w d key nonce size initial k taken)
+        (follows-step v (run v before) (reader v before) w (Call.start d key nonce size initial))
+
+    pub last-follows : Follows v (runFrom (begunEngine v before d key nonce size initial) between)
+        (lastReader v d key nonce initial between)
+    last-follows =
+        follows-from v (begunEngine v before d key nonce size initial)
+        (startedReader d key nonce initial) begun-follows between
+
+    pub last-going : Going d key nonce (lastReader v d key nonce initial between)
+    last-going =
+        going-from d key nonce v (begunEngine v before d key nonce size initial) (startedReader d key nonce initial) begun-follows between b
+        (started-going d key nonce initial)
+
+    last-released : released (paramsOf v) (lastReader v d key nonce initial between)
+        ≡ outputs (begunEngine v before d key nonce size initial) between
+    last-released =
+        released-from v (begunEngine v before d key nonce size initial)
+        (startedReader d key nonce initial) begun-follows between b
+        ∙ ap (λ (l : List ℕ). l ++ outputs (begunEngine v before d key nonce size initial) between)
+        (released-none (paramsOf v) true key nonce initial (headerPhase d initial) initial [] refl)
+
+    -- the bytes of the whole list
+    whole-outputs : outputs (run v before) (Call.start d key nonce size initial ∷ (between ++ (Call.end out ∷ [])))
+        ≡ released (paramsOf v) (lastReader v d key nonce initial between) ++ wrote
+        (step (runFrom (begunEngine v before d key nonce size initial) between) (Call.end out))
+    unfolding outputs step
+    whole-outputs =
+        ap (λ (l : List ℕ). l ++ outputs (begunEngine v before d key nonce size initial) (between ++ (Call.end out ∷ [])))
+        (wrote-none (step (run v before) (Call.start d key nonce size initial)) refl)
+        ∙ outputs-append (begunEngine v before d key nonce size initial) between (Call.end out ∷ [])
+        ∙ ap₂ (λ (x y : List ℕ). x ++ y) (sym last-released) (append-nil
+        (wrote (step (runFrom (begunEngine v before d key nonce size initial) between) (Call.end out))))
+
+-- an end's bytes, from its outcome
+ended-bytes : (a b out : List ℕ) (n : ℕ) (l : Left) → l .outcome ≡ Outcome.ok n → Writes a b out (l .buffer) n → b
+    ≡ a ++ wrote l
+unfolding wrote
+ended-bytes a b out n l o q = q .bytes ∙ ap (λ (x : Outcome). a ++ take (countOf x) (l .buffer)) (sym o)
+
+-- A sealing: after any list of calls, a start that is taken, any calls between, and an end that is taken, the bytes
+-- written are the specification's packet for the header and the data that were taken.
+pub sealed-taken : (v : SparkleVariant) (before : List Call) (key nonce : List ℕ) (size : ℕ) (initial : List ℕ)
+    (between : List Call) (out : List ℕ)
+    (k n : ℕ) → step (run v before) (Call.start Encrypt key nonce size initial) .outcome ≡ Outcome.ok k
+    → Betweens (begunEngine v before Encrypt key nonce size initial) between
+    → step (runFrom (begunEngine v before Encrypt key nonce size initial) between) (Call.end out) .outcome ≡ Outcome.ok n
+    → outputs (run v before) (Call.start Encrypt key nonce size initial ∷ (between ++ (Call.end out ∷ [])))
+    ≡ seal (paramsOf v) key nonce (lastReader v Encrypt key nonce initial between .header)
+    (lastReader v Encrypt key nonce initial between .body)
+sealed-taken v before key nonce size initial between out k n taken b o =
+    let p = paramsOf v in
+    let r = lastReader v Encrypt key nonce initial between in
+    by (endCheck p (r .phase) (heldOf p r) (length out)) refl
+  where
+    by : (x : AeadResult)
+        → endCheck (paramsOf v) (lastReader v Encrypt key nonce initial between .phase)
+        (heldOf (paramsOf v) (lastReader v Encrypt key nonce initial between)) (length out) ≡ x
+        → outputs (run v before) (Call.start Encrypt key nonce size initial ∷ (between ++ (Call.end out ∷ [])))
+        ≡ seal (paramsOf v) key nonce (lastReader v Encrypt key nonce initial between .header)
+        (lastReader v Encrypt key nonce initial between .body)
+    by (Err x) q =
+        absurd
+        (let w = last-follows v before Encrypt key nonce size initial between out k taken b in
+        let s = sym o ∙ end-refused v _ _ w out x q in
+        let z : _≡_ {A = ℕ} 0 1 = cc in omega arith)
+    by (Ok m) q =
+        let p = paramsOf v in
+        let r = lastReader v Encrypt key nonce initial between in
+        let w = last-follows v before Encrypt key nonce size initial between out k taken b in
+        let g = last-going v before Encrypt key nonce size initial between out k taken b in
+        let s = seal-end v _ r w out m q (takes-opening (g .takes)) in
+        whole-outputs v before Encrypt key nonce size initial between out k taken b
+        ∙ sym (ended-bytes _ _ out m _ (s .outcome-is) (s .bytes-are))
+        ∙ ap₂ (λ (x y : List ℕ). seal p x y (r .header) (r .body)) (g .key-is) (g .nonce-is)
+
+-- An opening: the end is taken only where the packet that was taken is verified, and then the bytes written are what its
+-- body decrypts to.
+pub record OpenedTaken (v : SparkleVariant) (key nonce : List ℕ) (r : Reader) (bytes : List ℕ) : Type 0 where
+  pub verifies : verified (paramsOf v) key nonce (r .header) (r .body) ≡ true
+  pub bytes-are : bytes ≡ decrypt (paramsOf v) key nonce (r .header) (bodyOf (paramsOf v) (r .body))
+
+cond-ok : (g : Bool) (n m : ℕ) → cond g (Outcome.ok n) (Outcome.no (6 ∷ [])) ≡ Outcome.ok m → g ≡ true
+cond-ok true n m e = refl
+cond-ok false n m e = absurd (let z : _≡_ {A = ℕ} 0 1 = cc in omega arith)
+
+pub opened-taken : (v : SparkleVariant) (before : List Call) (key nonce : List ℕ) (size : ℕ) (initial : List ℕ)
+    (between : List Call) (out : List ℕ)
+    (k n : ℕ) → step (run v before) (Call.start Decrypt key nonce size initial) .outcome ≡ Outcome.ok k
+    → Betweens (begunEngine v before Decrypt key nonce size initial) between
+    → step (runFrom (begunEngine v before Decrypt key nonce size initial) between) (Call.end out) .outcome ≡ Outcome.ok n
+    → OpenedTaken v key nonce (lastReader v Decrypt key nonce initial between)
+    (outputs (run v before) (Call.start Decrypt key nonce size initial ∷ (between ++ (Call.end out ∷ []))))
+opened-taken v before key nonce size initial between out k n taken b o =
+    let p = paramsOf v in
+    let r = lastReader v Decrypt key nonce initial between in
+    by (endCheck p (r .phase) (heldOf p r) (length out)) refl
+  where
+    by : (x : AeadResult)
+        → endCheck (paramsOf v) (lastReader v Decrypt key nonce initial between .phase)
+        (heldOf (paramsOf v) (lastReader v Decrypt key nonce initial between)) (length out) ≡ x
+        → OpenedTaken v key nonce (lastReader v Decrypt key nonce initial between)
+        (outputs (run v before) (Call.start Decrypt key nonce size initial ∷ (between ++ (Call.end out ∷ []))))
+    by (Err x) q =
+        absurd
+        (let w = last-follows v before Decrypt key nonce size initial between out k taken b in
+        let s = sym o ∙ end-refused v _ _ w out x q in
+        let z : _≡_ {A = ℕ} 0 1 = cc in omega arith)
+    by (Ok m) q =
+        let p = paramsOf v in
+        let r = lastReader v Decrypt key nonce initial between in
+        let w = last-follows v before Decrypt key nonce size initial between out k taken b in
+        let g = last-going v before Decrypt key nonce size initial between out k taken b in
+        let s = open-end v _ r w out m q (takes-opening (g .takes)) in
+        let good = cond-ok (verified p (r .key) (r .nonce) (r .header) (r .body)) m n (sym (s .outcome-is) ∙ o) in
+        let oks = s .outcome-is ∙ ap (λ (x : Bool). cond x (Outcome.ok m) (Outcome.no (6 ∷ []))) good in
+        record {
+          verifies = sym (ap₂ (λ (x y : List ℕ). verified p x y (r .header) (r .body)) (g .key-is) (g .nonce-is)) ∙ good;
+          bytes-are =
+              whole-outputs v before Decrypt key nonce size initial between out k taken b
+              ∙ sym (ended-bytes _ _ out m _ oks (s .good-bytes good))
+              ∙ ap₂ (λ (x y : List ℕ). decrypt p x y (r .header) (bodyOf p (r .body))) (g .key-is) (g .nonce-is);
+        }
+
+-- The same in what the calls' own outcomes say was taken: however header and data are cut, the calls that are not refused
+-- seal to what the specification gives.
+pub sealed-unrefused : (v : SparkleVariant) (before : List Call) (key nonce : List ℕ) (size : ℕ) (initial : List ℕ)
+    (between : List Call) (out : List ℕ)
+    (k n : ℕ) → step (run v before) (Call.start Encrypt key nonce size initial) .outcome ≡ Outcome.ok k
+    → Betweens (begunEngine v before Encrypt key nonce size initial) between
+    → step (runFrom (begunEngine v before Encrypt key nonce size initial) between) (Call.end out) .outcome ≡ Outcome.ok n
+    → outputs (run v before) (Call.start Encrypt key nonce size initial ∷ (between ++ (Call.end out ∷ [])))
+    ≡ seal (paramsOf v) key nonce (initial ++ takenHeader (begunEngine v before Encrypt key nonce size initial) between)
+    (takenData (begunEngine v before Encrypt key nonce size initial) between)
+sealed-unrefused v before key nonce size initial between out k n taken b o =
+    let w = begun-follows v before Encrypt key nonce size initial between out k taken b in
+    sealed-taken v before key nonce size initial between out k n taken b o
+    ∙ ap₂ (λ (x y : List ℕ). seal (paramsOf v) key nonce x y) (header-taken-from v _ _ w between b)
+    (data-taken-from v _ _ w between b)
+
+-- An opening's end is taken only for a verified packet, and then its calls give what the packet's body decrypts to.
+pub record OpenedUnrefused (v : SparkleVariant) (key nonce header packet bytes : List ℕ) : Type 0 where
+  pub verifies : verified (paramsOf v) key nonce header packet ≡ true
+  pub bytes-are : bytes ≡ decrypt (paramsOf v) key nonce header (bodyOf (paramsOf v) packet)
+
+pub opened-unrefused : (v : SparkleVariant) (before : List Call) (key nonce : List ℕ) (size : ℕ) (initial : List ℕ)
+    (between : List Call) (out : List ℕ)
+    (k n : ℕ) → step (run v before) (Call.start Decrypt key nonce size initial) .outcome ≡ Outcome.ok k
+    → Betweens (begunEngine v before Decrypt key nonce size initial) between
+    → step (runFrom (begunEngine v before Decrypt key nonce size initial) between) (Call.end out) .outcome ≡ Outcome.ok n
+    → OpenedUnrefused v key nonce (initial ++ takenHeader (begunEngine v before Decrypt key nonce size initial) between)
+    (takenData (begunEngine v before Decrypt key nonce size initial) between)
+    (outputs (run v before) (Call.start Decrypt key nonce size initial ∷ (between ++ (Call.end out ∷ []))))
+opened-unrefused v before key nonce size initial between out k n taken b o =
+    let p = paramsOf v in
+    let w = begun-follows v before Decrypt key nonce size initial between out k taken b in
+    let hq = header-taken-from v _ _ w between b in
+    let dq = data-taken-from v _ _ w between b in
+    let q = opened-taken v before key nonce size initial between out k n taken b o in
+    record {
+      verifies = sym (ap₂ (λ (x y : List ℕ). verified p key nonce x y) hq dq) ∙ q .verifies;
+      bytes-are = q .bytes-are ∙ ap₂ (λ (x y : List ℕ). decrypt p key nonce x (bodyOf p y)) hq dq;
+    }

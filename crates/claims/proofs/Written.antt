@@ -1,0 +1,370 @@
+-- What each call of a list writes and answers, on an engine that follows the reader.
+use mathlib.Core.Path.{_≡_, refl, sym, ap, ap₂, subst, _∙_}
+use mathlib.Core.Bool.{Bool, true, false, cond}
+use mathlib.Core.List.{List, [], _∷_, _++_}
+use Prim.Native.Nat.{ℕ, _-_, _%_, _^_, _≤_}
+use native.Mathlib.Omega.{arith}
+use lib.ListN.{length, drop, length-replicate}
+use Rattle.schwaemm.specs.Schwaemm.{Params, tag, steps, decrypt, seal, body as bodyOf, verified}
+use Rattle.schwaemm.specs.Bytes.{same}
+use Rattle.tc_sparkle_aead.specs.declared.variant.SparkleVariant.{SparkleVariant}
+use Rattle.tc_sparkle_aead.specs.declared.phase.Direction.{Direction}
+use Rattle.tc_sparkle_aead.specs.declared.phase.Direction.the-variants.{Encrypt, Decrypt}
+use Rattle.tc_sparkle_aead.specs.declared.phase.Phase.{Phase}
+use Rattle.tc_sparkle_aead.specs.declared.phase.Phase.the-variants.{Final}
+use Rattle.tc_sparkle_aead.specs.declared.aead_error.AeadError.{AeadError}
+use Rattle.tc_sparkle_aead.specs.declared.aead_error.AeadResult.{AeadResult}
+use Rattle.tc_sparkle_aead.specs.declared.aead_error.AeadResult.the-variants.{Ok, Err}
+use Rattle.tc_sparkle_aead.specs.declared.engine.Mac.{Mac}
+use Rattle.tc_sparkle_aead.specs.declared.engine.SparkleEngine.{SparkleEngine}
+use Rattle.tc_sparkle_aead.specs.Variant.{paramsOf}
+use Rattle.tc_sparkle_aead.specs.Refusals.{refusal}
+use Rattle.tc_sparkle_aead.specs.Checks.{opening, dataCheck, endCheck}
+use Rattle.tc_sparkle_aead.specs.Engine.{zeros, noMac}
+use Rattle.tc_sparkle_aead.specs.Calls.{beginData, written, dataBy, dataOutBy, dataAnswer, processBytes, processBytesOut, sealLast, sealTag, openBlock, openLast, receivedTag, openTag, sealEnd, openEndBy, openEnd, openEndOutBy, finalBy, finalOutBy, finalAnswer, doFinal, doFinalOut, readable, macOf, stepsNow}
+use Rattle.tc_sparkle_aead.proofs.VariantLaws.{sizes}
+use Rattle.claims.specs.Call.{Call, Left, step, Outcome, outcome}
+use Rattle.claims.specs.Reader.{Reader, heldOf, inPhase, readMessage, read}
+use Rattle.schwaemm.proofs.RoundTrip.{length-decrypt}
+use Rattle.claims.proofs.Packets.{length-body}
+use Rattle.claims.proofs.Kept.{Follows, Fits, Standing, engineOf, openedMac}
+use Rattle.claims.proofs.Follows.{Takes, kept, inData, takes-enough, begun-data, takes-loaded, opening-verified, seal-engine, open-engine, data-answer, final-answer}
+use Rattle.claims.proofs.Accepted.{data-good, end-good, data-takes, end-takes, EndPassed, released, released-data, Writes, writes, message-writes, seal-bytes, seal-length, open-bytes, open-length, last-length, is-open, end-count, takes-opening}
+
+pub outcome-ok : (k : AeadResult) (n : ℕ) → outcome k ≡ Outcome.ok n → k ≡ Ok n
+outcome-ok (Ok m) n e = let z : m ≡ n = cc in ap Ok z
+outcome-ok (Err x) n e = absurd (let z : _≡_ {A = ℕ} 0 1 = cc in omega arith)
+
+data-answered : (k : AeadResult) (e : SparkleEngine) (input : List ℕ) → dataBy k e input .answer ≡ k
+data-answered (Ok n) e input = refl
+data-answered (Err x) e input = refl
+
+-- ---- A data call
+
+-- its answer is the reader's check
+pub message-outcome : (v : SparkleVariant) (e : SparkleEngine) (r : Reader) → Follows v e r → (input out : List ℕ)
+    → step e (Call.message input out) .outcome
+    ≡ outcome (dataCheck (paramsOf v) (r .phase) (heldOf (paramsOf v) r) (length input) (length out))
+unfolding step processBytes
+message-outcome v e r w input out =
+    let E = engineOf v r (w .mac) (w .count) in
+    ap (λ (x : SparkleEngine). outcome (dataBy (dataAnswer x (length input) (length out)) x input .answer)) (w .same-engine)
+    ∙ ap outcome (data-answered (dataAnswer E (length input) (length out)) E input ∙ data-answer v r (w .mac) (w .count)
+    (length input) (length out))
+
+pub message-writes-next : (v : SparkleVariant) (e : SparkleEngine) (r : Reader) → Follows v e r
+    → (input out : List ℕ) (n : ℕ)
+    → step e (Call.message input out) .outcome ≡ Outcome.ok n
+    → Writes (released (paramsOf v) r) (released (paramsOf v) (read (paramsOf v) r (Call.message input out) .reader)) out
+    (step e (Call.message input out) .buffer) n
+unfolding step read processBytesOut
+message-writes-next v e r w input out n o =
+    let p = paramsOf v in
+    let E = engineOf v r (w .mac) (w .count) in
+    let K : dataCheck p (r .phase) (heldOf p r) (length input) (length out) ≡ Ok n =
+    outcome-ok _ n (sym (message-outcome v e r w input out) ∙ o) in
+    let A : dataAnswer E (length input) (length out) ≡ Ok n =
+    data-answer v r (w .mac) (w .count) (length input) (length out) ∙ K in
+    let t = data-takes p (r .phase) (heldOf p r) (length input) (length out) n K in
+    subst (λ (x : SparkleEngine). Writes (released p r) (released p (read p r (Call.message input out) .reader)) out
+    (processBytesOut x input out) n)
+    (sym (w .same-engine))
+    (subst (λ (k : AeadResult). Writes (released p r) (released p (readMessage k r input .reader)) out (processBytesOut E input out) n) (sym K)
+    (subst (λ (k : AeadResult). Writes (released p r) (released p (readMessage (Ok n) r input .reader)) out (dataOutBy k E input out) n) (sym A)
+    (message-writes v (r .loaded) (r .key) (r .nonce) (r .initial) (w .fits) (r .header) (r .body) (w .mac) (w .count) (t .1)
+    (w .standing) input out n
+    (data-good p (r .phase) (heldOf p r) (length input) (length out) n K))))
+
+-- ---- An end past its checks
+
+-- The message of the data so far.
+unfoldable pub messageOf : Params → Reader → List ℕ
+messageOf p r = cond (opening (r .phase)) (decrypt p (r .key) (r .nonce) (r .header) (bodyOf p (r .body))) (r .body)
+
+wiped : (m n : ℕ) (out : List ℕ) → m ≡ n → written (zeros m) out ≡ zeros n ++ drop n out
+unfolding written zeros
+wiped m n out e =
+    ap₂ (λ (i j : ℕ). zeros i ++ drop j out) e (length-replicate m 0 ∙ e)
+
+-- its answer and what it writes, by the direction and on an opening by whether the tag is the specification's
+pub record SealEnd (v : SparkleVariant) (r : Reader) (out : List ℕ) (n : ℕ) (left : Left) : Type 0 where
+  pub outcome-is : left .outcome ≡ Outcome.ok n
+  pub bytes-are : Writes (released (paramsOf v) r) (seal (paramsOf v) (r .key) (r .nonce) (r .header) (r .body)) out
+      (left .buffer) n
+
+pub record OpenEnd (v : SparkleVariant) (r : Reader) (out : List ℕ) (n : ℕ) (good : Bool) (left : Left) : Type 0 where
+  pub outcome-is : left .outcome ≡ cond good (Outcome.ok n) (Outcome.no (6 ∷ []))
+  pub good-bytes : good ≡ true
+      → Writes (released (paramsOf v) r) (decrypt (paramsOf v) (r .key) (r .nonce) (r .header)
+      (bodyOf (paramsOf v) (r .body))) out (left .buffer) n
+  pub bad-bytes : good ≡ false → left .buffer ≡ zeros n ++ drop n out
+
+module _ (v : SparkleVariant) (loaded : Bool) (key nonce initial header body : List ℕ) (mac : Mac) (c : ℕ)
+    (f : loaded ≡ true → Fits (paramsOf v) key nonce) (out : List ℕ) (n : ℕ) where
+  sealed-end : {phase : Phase} → Takes Encrypt phase → Standing (paramsOf v) phase loaded key nonce initial header body mac c
+      → (b : Bool) → b ≡ false → (e : SparkleEngine) → e ≡ inData v loaded key nonce initial Encrypt header body
+      → EndPassed (paramsOf v) phase (heldOf (paramsOf v) (kept loaded key nonce initial phase header body)) (length out) n
+      → SealEnd v (kept loaded key nonce initial phase header body) out n
+      (record {
+        engine = cond b (openEnd e n) (sealEnd e n) .engine;
+        outcome = outcome (cond b (openEnd e n) (sealEnd e n) .answer);
+        buffer = written (cond b (openEndOutBy (same (receivedTag e) (openTag e)) e) (sealLast e ++ sealTag e)) out;
+      })
+  unfolding sealEnd
+  sealed-end t st true no-open e is ok = absurd (let z : _≡_ {A = ℕ} 0 1 = cc in omega arith)
+  sealed-end {phase} t st false no-open e is ok =
+      let p = paramsOf v in
+      let l = takes-loaded v loaded key nonce initial f t header body mac c st in
+      record {
+        outcome-is = refl;
+        bytes-are =
+            writes (released p (kept loaded key nonce initial phase header body)) (seal p key nonce header body) out
+            (sealLast e ++ sealTag e) n
+            (seal-bytes v loaded key nonce initial f header body mac c l
+            ∙ ap₂ (λ (x : List ℕ) (y : SparkleEngine). x ++ (sealLast y ++ sealTag y))
+            (sym (released-data v loaded key nonce initial f header body mac c t)) (sym is))
+            (ap (λ (y : SparkleEngine). length (sealLast y ++ sealTag y)) is ∙ seal-length v loaded key nonce initial f header body mac c l
+            ∙ sym (end-count v loaded key nonce initial f header body mac c t st out n ok))
+            (ok .fits);
+      }
+
+  opened-end : {phase : Phase} → Takes Decrypt phase → Standing (paramsOf v) phase loaded key nonce initial header body mac c
+      → (b : Bool) → b ≡ true → (e : SparkleEngine) → e ≡ inData v loaded key nonce initial Decrypt header body
+      → paramsOf v .key ≤ length body
+      → EndPassed (paramsOf v) phase (heldOf (paramsOf v) (kept loaded key nonce initial phase header body)) (length out) n
+      → OpenEnd v (kept loaded key nonce initial phase header body) out n (verified (paramsOf v) key nonce header body)
+      (record {
+        engine = cond b (openEnd e n) (sealEnd e n) .engine;
+        outcome = outcome (cond b (openEnd e n) (sealEnd e n) .answer);
+        buffer = written (cond b (openEndOutBy (same (receivedTag e) (openTag e)) e) (sealLast e ++ sealTag e)) out;
+      })
+  unfolding openEnd
+  opened-end t st false is-opening e is enough ok = absurd (let z : _≡_ {A = ℕ} 0 1 = cc in omega arith)
+  opened-end {phase} t st true is-opening e is enough ok =
+      let p = paramsOf v in
+      let l = takes-loaded v loaded key nonce initial f t header body mac c st in
+      subst (λ (g : Bool). OpenEnd v (kept loaded key nonce initial phase header body) out n
+      (verified p key nonce header body)
+      (record { engine = openEndBy g e n .engine; outcome = outcome (openEndBy g e n .answer); buffer = written (openEndOutBy g e) out }))
+      (sym (ap (λ (y : SparkleEngine). same (receivedTag y) (openTag y)) is ∙ opening-verified v loaded key nonce initial f l header body enough))
+      (by l (verified p key nonce header body))
+    where
+      by : loaded ≡ true → (g : Bool) → OpenEnd v (kept loaded key nonce initial phase header body) out n g
+          (record { engine = openEndBy g e n .engine; outcome = outcome (openEndBy g e n .answer); buffer = written (openEndOutBy g e) out })
+      by l true =
+          let p = paramsOf v in
+          record {
+            outcome-is = refl;
+            good-bytes = λ _.
+                writes (released p (kept loaded key nonce initial phase header body))
+                (decrypt p key nonce header (bodyOf p body)) out (openLast e) n
+                (open-bytes v loaded key nonce initial f header body mac c l enough
+                ∙ ap₂ (λ (x : List ℕ) (y : SparkleEngine). x ++ openLast y)
+                (sym (released-data v loaded key nonce initial f header body mac c t)) (sym is))
+                (ap (λ (y : SparkleEngine). length (openLast y)) is ∙ last-length v loaded key nonce initial f header body mac c l enough
+                ∙ sym (end-count v loaded key nonce initial f header body mac c t st out n ok))
+                (ok .fits);
+            bad-bytes = λ b. absurd (let z : _≡_ {A = ℕ} 0 1 = cc in omega arith);
+          }
+      by l false =
+          let m : length (openBlock e) ≡ n =
+          ap (λ (y : SparkleEngine). length (openBlock y)) is ∙ open-length v loaded key nonce initial f header body mac c l enough
+          ∙ sym (end-count v loaded key nonce initial f header body mac c t st out n ok) in
+          record {
+            outcome-is = refl;
+            good-bytes = λ b. absurd (let z : _≡_ {A = ℕ} 0 1 = cc in omega arith);
+            bad-bytes = λ _. wiped (length (openBlock e)) n out m;
+          }
+
+-- the results of a step
+module _ (v : SparkleVariant) (r : Reader) (mac : Mac) (c : ℕ) (f : r .loaded ≡ true → Fits (paramsOf v) (r .key) (r .nonce))
+    (st : Standing (paramsOf v) (r .phase) (r .loaded) (r .key) (r .nonce) (r .initial) (r .header) (r .body) mac c)
+    (out : List ℕ) (n : ℕ) (passed : endCheck (paramsOf v) (r .phase) (heldOf (paramsOf v) r) (length out) ≡ Ok n) where
+  -- the step of an end past its checks
+  abbrev leftBy : AeadResult → Left
+  leftBy k =
+      record {
+        engine = finalBy k (engineOf v r mac c) .engine;
+        outcome = outcome
+            (finalBy k (engineOf v r mac c) .answer);
+        buffer = finalOutBy k (engineOf v r mac c) out;
+      }
+
+  step-is : step (engineOf v r mac c) (Call.end out) ≡ leftBy (Ok n)
+  unfolding step doFinal doFinalOut
+  step-is = ap leftBy (final-answer v r mac c (length out) ∙ passed)
+
+  seal-step : Takes Encrypt (r .phase) → SealEnd v r out n (step (engineOf v r mac c) (Call.end out))
+  seal-step t =
+      subst (SealEnd v r out n) (sym step-is)
+      (sealed-end v (r .loaded) (r .key) (r .nonce) (r .initial) (r .header) (r .body) mac c f out n t st
+      (opening (engineOf v r mac c .current .phase))
+      (is-open v (r .loaded) (r .key) (r .nonce) (r .initial) f (r .header) (r .body) mac c t st out n
+      (end-good (paramsOf v) (r .phase) (heldOf (paramsOf v) r) (length out) n passed))
+      (beginData (engineOf v r mac c))
+      (begun-data v (r .loaded) (r .key) (r .nonce) (r .initial) f t (r .header) (r .body) mac c st)
+      (end-good (paramsOf v) (r .phase) (heldOf (paramsOf v) r) (length out) n passed))
+
+  open-step : Takes Decrypt (r .phase)
+      → OpenEnd v r out n (verified (paramsOf v) (r .key) (r .nonce) (r .header) (r .body))
+      (step (engineOf v r mac c) (Call.end out))
+  open-step t =
+      subst (OpenEnd v r out n (verified (paramsOf v) (r .key) (r .nonce) (r .header) (r .body))) (sym step-is)
+      (opened-end v (r .loaded) (r .key) (r .nonce) (r .initial) (r .header) (r .body) mac c f out n t st
+      (opening (engineOf v r mac c .current .phase))
+      (is-open v (r .loaded) (r .key) (r .nonce) (r .initial) f (r .header) (r .body) mac c t st out n
+      (end-good (paramsOf v) (r .phase) (heldOf (paramsOf v) r) (length out) n passed))
+      (beginData (engineOf v r mac c))
+      (begun-data v (r .loaded) (r .key) (r .nonce) (r .initial) f t (r .header) (r .body) mac c st)
+      (takes-enough (paramsOf v) (sizes v) t (r .key) (r .nonce) (r .header) (r .body) (length out) n passed)
+      (end-good (paramsOf v) (r .phase) (heldOf (paramsOf v) r) (length out) n passed))
+
+  -- the engine afterwards
+  module _ (o : EndPassed (paramsOf v) (r .phase) (heldOf (paramsOf v) r) (length out) n) where
+    seal-engine-step : Takes Encrypt (r .phase)
+        → step (engineOf v r mac c) (Call.end out) .engine
+        ≡ engineOf v (inPhase r (Final Encrypt) (r .header) (r .body))
+        (readable (tag (paramsOf v) (r .key) (r .nonce) (r .header) (r .body)))
+        (steps (paramsOf v) (length (r .header)) (length (r .body)) % 2 ^ 64)
+    seal-engine-step t =
+        let e = beginData (engineOf v r mac c) in
+        let l = takes-loaded v (r .loaded) (r .key) (r .nonce) (r .initial) f t (r .header) (r .body) mac c st in
+        ap (λ (x : Left). x .engine) step-is
+        ∙ ap (λ (b : Bool). cond b (openEnd e n) (sealEnd e n) .engine)
+        (is-open v (r .loaded) (r .key) (r .nonce) (r .initial) f (r .header) (r .body) mac c t st out n o)
+        ∙ ap (λ (y : SparkleEngine). sealEnd y n .engine) (begun-data v (r .loaded) (r .key) (r .nonce) (r .initial) f t
+        (r .header) (r .body) mac c st)
+        ∙ seal-engine v (r .loaded) (r .key) (r .nonce) (r .initial) f l (r .header) (r .body) n
+
+    open-engine-step : Takes Decrypt (r .phase)
+        → step (engineOf v r mac c) (Call.end out) .engine
+        ≡ engineOf v (inPhase r (Final Decrypt) (r .header) (r .body))
+        (openedMac (paramsOf v) (r .key) (r .nonce) (r .header) (r .body))
+        (steps (paramsOf v) (length (r .header)) (length (r .body) - paramsOf v .key) % 2 ^ 64)
+    open-engine-step t =
+        let e = beginData (engineOf v r mac c) in
+        let l = takes-loaded v (r .loaded) (r .key) (r .nonce) (r .initial) f t (r .header) (r .body) mac c st in
+        ap (λ (x : Left). x .engine) step-is
+        ∙ ap (λ (b : Bool). cond b (openEnd e n) (sealEnd e n) .engine)
+        (is-open v (r .loaded) (r .key) (r .nonce) (r .initial) f (r .header) (r .body) mac c t st out n o)
+        ∙ ap (λ (y : SparkleEngine). openEnd y n .engine) (begun-data v (r .loaded) (r .key) (r .nonce) (r .initial) f t
+        (r .header) (r .body) mac c st)
+        ∙ open-engine v (r .loaded) (r .key) (r .nonce) (r .initial) f l (r .header) (r .body)
+        (takes-enough (paramsOf v) (sizes v) t (r .key) (r .nonce) (r .header) (r .body) (length out) n passed) n
+
+-- The tag and the steps of an end past its checks: a sealing's data is its message, an opening's what its packet
+-- decrypts to.
+pub record Ended (v : SparkleVariant) (r : Reader) (good : Bool) (e : SparkleEngine) : Type 0 where
+  pub mac-is : macOf e
+      ≡ cond good (readable (tag (paramsOf v) (r .key) (r .nonce) (r .header) (messageOf (paramsOf v) r))) noMac
+  pub steps-are : stepsNow e ≡ steps (paramsOf v) (length (r .header)) (length (messageOf (paramsOf v) r)) % 2 ^ 64
+
+mac-shown : (good : Bool) (t : List ℕ) (e : SparkleEngine) → e .mac ≡ cond good (readable t) noMac → macOf e
+    ≡ cond good (readable t) noMac
+unfolding macOf readable noMac
+mac-shown true t e h = rw h
+mac-shown false t e h = rw h
+
+module _ (v : SparkleVariant) (r : Reader) (e : SparkleEngine) where
+  ended-sealing : opening (r .phase) ≡ false
+      → e
+      ≡ engineOf v (inPhase r (Final Encrypt) (r .header) (r .body))
+      (readable (tag (paramsOf v) (r .key) (r .nonce) (r .header) (r .body)))
+      (steps (paramsOf v) (length (r .header)) (length (r .body)) % 2 ^ 64)
+      → Ended v r (cond (opening (r .phase)) (verified (paramsOf v) (r .key) (r .nonce) (r .header) (r .body)) true) e
+  unfolding messageOf stepsNow
+  ended-sealing b is =
+      record {
+        mac-is =
+            rw b (mac-shown true (tag (paramsOf v) (r .key) (r .nonce) (r .header) (r .body)) e
+            (ap (λ (x : SparkleEngine). x .mac) is));
+        steps-are = rw b (ap (λ (x : SparkleEngine). x .steps .current) is);
+      }
+
+  ended-opening : opening (r .phase) ≡ true → paramsOf v .key ≤ length (r .body)
+      → e
+      ≡ engineOf v (inPhase r (Final Decrypt) (r .header) (r .body))
+      (openedMac (paramsOf v) (r .key) (r .nonce) (r .header) (r .body))
+      (steps (paramsOf v) (length (r .header)) (length (r .body) - paramsOf v .key) % 2 ^ 64)
+      → Ended v r (cond (opening (r .phase)) (verified (paramsOf v) (r .key) (r .nonce) (r .header) (r .body)) true) e
+  unfolding messageOf stepsNow openedMac
+  ended-opening b enough is =
+      let p = paramsOf v in
+      let c = bodyOf p (r .body) in
+      record {
+        mac-is =
+            rw b
+            (mac-shown (verified p (r .key) (r .nonce) (r .header) (r .body))
+            (tag p (r .key) (r .nonce) (r .header) (decrypt p (r .key) (r .nonce) (r .header) c)) e
+            (ap (λ (x : SparkleEngine). x .mac) is));
+        steps-are =
+            rw b
+            (ap (λ (x : SparkleEngine). x .steps .current) is
+            ∙ ap (λ (k : ℕ). steps p (length (r .header)) k % 2 ^ 64)
+            (sym (length-decrypt p (sizes v) (r .key) (r .nonce) (r .header) c ∙ length-body p (r .body) enough)));
+      }
+
+-- an end past its checks, on an engine that follows the reader
+pub seal-end : (v : SparkleVariant) (e : SparkleEngine) (r : Reader) → Follows v e r → (out : List ℕ) (n : ℕ)
+    → endCheck (paramsOf v) (r .phase) (heldOf (paramsOf v) r) (length out) ≡ Ok n → opening (r .phase) ≡ false
+    → SealEnd v r out n (step e (Call.end out))
+seal-end v e r w out n passed no-open =
+    subst (λ (x : SparkleEngine). SealEnd v r out n (step x (Call.end out))) (sym (w .same-engine))
+    (let t = end-takes (paramsOf v) (r .phase) (heldOf (paramsOf v) r) (length out) n passed in by (t .0) (t .1))
+  where
+    by : (d : Direction) → Takes d (r .phase) → SealEnd v r out n (step (engineOf v r (w .mac) (w .count)) (Call.end out))
+    by Encrypt t = seal-step v r (w .mac) (w .count) (w .fits) (w .standing) out n passed t
+    by Decrypt t = absurd (let o = takes-opening t in let z : _≡_ {A = ℕ} 0 1 = cc in omega arith)
+
+pub open-end : (v : SparkleVariant) (e : SparkleEngine) (r : Reader) → Follows v e r → (out : List ℕ) (n : ℕ)
+    → endCheck (paramsOf v) (r .phase) (heldOf (paramsOf v) r) (length out) ≡ Ok n → opening (r .phase) ≡ true
+    → OpenEnd v r out n (verified (paramsOf v) (r .key) (r .nonce) (r .header) (r .body)) (step e (Call.end out))
+open-end v e r w out n passed is-opening =
+    subst (λ (x : SparkleEngine). OpenEnd v r out n (verified (paramsOf v) (r .key) (r .nonce) (r .header) (r .body))
+    (step x (Call.end out)))
+    (sym (w .same-engine))
+    (let t = end-takes (paramsOf v) (r .phase) (heldOf (paramsOf v) r) (length out) n passed in by (t .0) (t .1))
+  where
+    by : (d : Direction) → Takes d (r .phase)
+        → OpenEnd v r out n (verified (paramsOf v) (r .key) (r .nonce) (r .header) (r .body))
+        (step (engineOf v r (w .mac) (w .count)) (Call.end out))
+    by Encrypt t = absurd (let o = takes-opening t in let z : _≡_ {A = ℕ} 0 1 = cc in omega arith)
+    by Decrypt t = open-step v r (w .mac) (w .count) (w .fits) (w .standing) out n passed t
+
+-- an end that is refused by its checks answers that refusal
+final-refused : (k : AeadResult) (x : AeadError) (e : SparkleEngine) → k ≡ Err x → finalBy k e .answer ≡ Err x
+final-refused (Ok n) x e h = absurd (let z : _≡_ {A = ℕ} 0 1 = cc in omega arith)
+final-refused (Err y) x e h = h
+
+pub end-refused : (v : SparkleVariant) (e : SparkleEngine) (r : Reader) → Follows v e r → (out : List ℕ) (x : AeadError)
+    → endCheck (paramsOf v) (r .phase) (heldOf (paramsOf v) r) (length out) ≡ Err x
+    → step e (Call.end out) .outcome ≡ Outcome.no (refusal x)
+unfolding step doFinal
+end-refused v e r w out x h =
+    let K = engineOf v r (w .mac) (w .count) in
+    ap (λ (y : SparkleEngine). outcome (finalBy (finalAnswer y (length out)) y .answer)) (w .same-engine)
+    ∙ ap outcome (final-refused (finalAnswer K (length out)) x K (final-answer v r (w .mac) (w .count) (length out) ∙ h))
+
+pub end-ended : (v : SparkleVariant) (e : SparkleEngine) (r : Reader) → Follows v e r → (out : List ℕ) (n : ℕ)
+    → endCheck (paramsOf v) (r .phase) (heldOf (paramsOf v) r) (length out) ≡ Ok n
+    → Ended v r (cond (opening (r .phase)) (verified (paramsOf v) (r .key) (r .nonce) (r .header) (r .body)) true)
+    (step e (Call.end out) .engine)
+end-ended v e r w out n passed =
+    subst (λ (x : SparkleEngine). Ended v r good (step x (Call.end out) .engine)) (sym (w .same-engine))
+    (let t = end-takes (paramsOf v) (r .phase) (heldOf (paramsOf v) r) (length out) n passed in by (t .0) (t .1))
+  where
+    good : Bool
+    good = cond (opening (r .phase)) (verified (paramsOf v) (r .key) (r .nonce) (r .header) (r .body)) true
+
+    o : EndPassed (paramsOf v) (r .phase) (heldOf (paramsOf v) r) (length out) n
+    o = end-good (paramsOf v) (r .phase) (heldOf (paramsOf v) r) (length out) n passed
+
+    by : (d : Direction) → Takes d (r .phase)
+        → Ended v r good (step (engineOf v r (w .mac) (w .count)) (Call.end out) .engine)
+    by Encrypt t =
+        ended-sealing v r _ (takes-opening t) (seal-engine-step v r (w .mac) (w .count) (w .fits)
+        (w .standing) out n passed o t)
+    by Decrypt t =
+        ended-opening v r _ (takes-opening t)
+        (takes-enough (paramsOf v) (sizes v) t (r .key) (r .nonce) (r .header) (r .body) (length out) n passed)
+        (open-engine-step v r (w .mac) (w .count) (w .fits) (w .standing) out n passed o t)

@@ -1,0 +1,90 @@
+-- Laws of data calls, over plain variables: the point and the output after the blocks that go, and what the check of a
+-- data call says of the blocks.
+use mathlib.Core.Path.{_≡_, refl, sym, ap, ap₂, _∙_}
+use mathlib.Core.Bool.{Bool, true, false, cond}
+use mathlib.Core.List.{List, _++_}
+use Prim.Native.Nat.{ℕ, _+_, _*_, _^_, _≤_}
+use native.Mathlib.Omega.{arith}
+use lib.Dec.{ltb}
+use borrow.Author.Tests.{ltb-false}
+use lib.ListN.{length, take, drop}
+use Rattle.schwaemm.specs.Blocks.{ready, given}
+use Rattle.schwaemm.specs.Schwaemm.{Params, messageBlock, crypt}
+use Rattle.tc_sparkle_aead.specs.Variant.{paramsOf}
+use Rattle.tc_sparkle_aead.specs.declared.phase.Phase.{Phase}
+use Rattle.tc_sparkle_aead.specs.declared.engine.Point.{Point}
+use Rattle.tc_sparkle_aead.specs.declared.phase.Phase.the-variants.{Uninitialized, Init, Aad, Data, Final}
+use Rattle.tc_sparkle_aead.specs.declared.phase.Direction.{Direction}
+use Rattle.tc_sparkle_aead.specs.declared.aead_error.AeadError.the-variants.{OutputTooShort, InputTooLong}
+use Rattle.tc_sparkle_aead.specs.declared.aead_error.AeadResult.the-variants.{Ok, Err}
+use Rattle.tc_sparkle_aead.specs.declared.engine.SparkleEngine.{SparkleEngine}
+use Rattle.tc_sparkle_aead.specs.Checks.{keep, heldIn, then, room, updateLen, dataCheck}
+use Rattle.tc_sparkle_aead.specs.Calls.{stateIn, heldCount, blocks, plainOf, streamOut, written, atPoint, withoutHeader, afterHeader, beginBy}
+use Rattle.tc_sparkle_aead.proofs.Fill.{length-zeros}
+use Rattle.tc_sparkle_aead.proofs.VariantLaws.{Small, small}
+use Rattle.tc_sparkle_aead.proofs.CallLaws.{stream-is, length-stream}
+
+module _ (p : Params) (small : Small p) (k : ℕ) (at : Point) (input : List ℕ) (long : length (at .buffer) ≡ 64) (h : ℕ)
+    (eh : h ≡ heldCount p (at .phase) (at .held)) (count : ℕ) where
+  -- the number of blocks from the code's own held count
+  pub count-is : count ≡ blocks p k at input → count ≡ ready (p .rate) k (h + length input)
+  unfolding blocks
+  count-is e =
+      e ∙ ap (ready (p .rate) k) (length-stream p at input small long ∙ ap (λ (n : ℕ). n + length input) (sym eh))
+
+  pub is-count : count ≡ ready (p .rate) k (h + length input) → count ≡ blocks p k at input
+  unfolding blocks
+  is-count e =
+      e ∙ ap (ready (p .rate) k) (ap (λ (n : ℕ). n + length input) eh ∙ sym (length-stream p at input small long))
+
+-- what the blocks write
+pub written-at : (p : Params) (at : Point) (input out bytes : List ℕ) (h count : ℕ) → h ≡ heldCount p (at .phase) (at .held) → count ≡ blocks p (keep p (at .phase)) at input → length (given (p .rate) (messageBlock p (plainOf p (at .phase))) (crypt p) count (stateIn p (at .words)) (take h (at .buffer) ++ input)) ≡ count * p .rate → bytes ≡ given (p .rate) (messageBlock p (plainOf p (at .phase))) (crypt p) count (stateIn p (at .words)) (take h (at .buffer) ++ input) ++ drop (count * p .rate) out → bytes ≡ written (streamOut p at input) out
+unfolding written streamOut
+written-at p at input out bytes h count eh ec el eb =
+    let g = given (p .rate) (messageBlock p (plainOf p (at .phase))) (crypt p) count (stateIn p (at .words)) (take h (at .buffer) ++ input) in
+    eb ∙ ap (λ (n : ℕ). g ++ drop n out) (sym el)
+    ∙ ap₂ (λ (c : ℕ) (l : List ℕ). given (p .rate) (messageBlock p (plainOf p (at .phase))) (crypt p) c (stateIn p (at .words)) l ++ drop (length (given (p .rate) (messageBlock p (plainOf p (at .phase))) (crypt p) c (stateIn p (at .words)) l)) out) ec (stream-is p at input h eh)
+
+-- the check of a data call has room for what its blocks become
+module _ (r available n : ℕ) where
+  roomy : (b : Bool) → ltb available r ≡ b → cond b (Err (OutputTooShort r available)) (Ok r) ≡ Ok n → r ≤ available
+  roomy true t e = absurd (let z : _≡_ {A = ℕ} 0 1 = cc in omega arith)
+  roomy false t e = ltb-false available r t
+
+  within-room : (b : Bool) → then (cond b (Ok r) (Err InputTooLong)) (room available) ≡ Ok n → r ≤ available
+  within-room true e = roomy (ltb available r) refl e
+  within-room false e = absurd (let z : _≡_ {A = ℕ} 0 1 = cc in omega arith)
+
+update-room : (p : Params) (phase : Phase) (held m available n : ℕ) → then (updateLen p phase held m) (room available) ≡ Ok n → ready (p .rate) (keep p phase) (heldIn p phase held + m) * p .rate ≤ available
+unfolding updateLen
+update-room p phase held m available n e =
+    within-room (ready (p .rate) (keep p phase) (heldIn p phase held + m) * p .rate) available n (ltb (heldIn p phase held + m) (2 ^ 64)) e
+
+-- the blocks of a point in Data, from its held count
+blocks-in : (p : Params) → Small p → (k h : ℕ) (at : Point) (input : List ℕ) → length (at .buffer) ≡ 64 → heldCount p (at .phase) (at .held) ≡ h → blocks p k at input ≡ ready (p .rate) k (h + length input)
+unfolding blocks
+blocks-in p small k h at input long e =
+    ap (ready (p .rate) k) (length-stream p at input small long ∙ ap (λ (n : ℕ). n + length input) e)
+
+none-held : (p : Params) (d : Direction) → heldCount p (Data d) 0 ≡ 0
+none-held p d = omega arith
+
+pub data-room : (phase : Phase) (e : SparkleEngine) → e .current .phase ≡ phase → length (e .current .buffer) ≡ 64 → (input : List ℕ) (available n : ℕ) → dataCheck (paramsOf (e .variant)) phase (e .current .held) (length input) available ≡ Ok n → blocks (paramsOf (beginBy phase e .variant)) (keep (paramsOf (beginBy phase e .variant)) (beginBy phase e .current .phase)) (beginBy phase e .current) input * paramsOf (beginBy phase e .variant) .rate ≤ available
+unfolding dataCheck atPoint withoutHeader afterHeader
+data-room Uninitialized e q long input available n ok = absurd (let z : _≡_ {A = ℕ} 0 1 = cc in omega arith)
+data-room (Init d) e q long input available n ok =
+    let p = paramsOf (e .variant) in
+    rw (blocks-in p (small (e .variant)) (keep p (Data d)) 0 (withoutHeader d (e .current)) input (length-zeros 64) (none-held p d))
+    (update-room p (Init d) (e .current .held) (length input) available n ok)
+data-room (Aad d) e q long input available n ok =
+    let p = paramsOf (e .variant) in
+    rw (blocks-in p (small (e .variant)) (keep p (Data d)) 0 (afterHeader p d (e .current)) input (length-zeros 64) (none-held p d))
+    (update-room p (Aad d) (e .current .held) (length input) available n ok)
+data-room (Data d) e q long input available n ok =
+    let p = paramsOf (e .variant) in
+    let count : blocks p (keep p (e .current .phase)) (e .current) input ≡ ready (p .rate) (keep p (Data d)) (heldIn p (Data d) (e .current .held) + length input) =
+    ap (λ (k : ℕ). blocks p k (e .current) input) (ap (keep p) q)
+    ∙ blocks-in p (small (e .variant)) (keep p (Data d)) (heldIn p (Data d) (e .current .held)) (e .current) input long
+    (ap (λ (ph : Phase). heldCount p ph (e .current .held)) q) in
+    rw count (update-room p (Data d) (e .current .held) (length input) available n ok)
+data-room (Final d) e q long input available n ok = absurd (let z : _≡_ {A = ℕ} 0 1 = cc in omega arith)

@@ -1,0 +1,290 @@
+-- The end of a message, over plain variables: the last block, the tag and what is written, as the code computes them
+-- piece by piece, are what the definitions of `specs.Calls` say.
+use mathlib.Core.Path.{_≡_, refl, sym, ap, ap₂, _∙_}
+use mathlib.Core.Bool.{Bool, true, false, cond}
+use mathlib.Core.List.{List, [], _∷_, _++_}
+use Prim.Native.Nat.{ℕ, zero, suc, _+_, _-_, _≤_, _<_}
+use native.Mathlib.Omega.{arith}
+use lib.Dec.{ltb}
+use lib.ListN.{length, take, drop, length-append}
+use lib.Seq.{length-take-le, take-take, take-add, take-at, drop-at, drop-drop, paste}
+use Rattle.schwaemm.specs.Bytes.{ifEmpty, same}
+use Rattle.schwaemm.specs.Schwaemm.{Params, Sizes, crypt, mixLast, tagOf}
+use Rattle.schwaemm.proofs.States.{stateLength, length-crypt, length-mixLast}
+use Rattle.schwaemm.proofs.RoundTrip.{length-tagOf}
+use Rattle.tc_sparkle_aead.specs.declared.phase.Direction.the-variants.{Encrypt, Decrypt}
+use Rattle.tc_sparkle_aead.specs.declared.aead_error.AeadError.the-variants.{AuthenticationFailed}
+use Rattle.tc_sparkle_aead.specs.declared.aead_error.AeadResult.the-variants.{Ok, Err}
+use Rattle.tc_sparkle_aead.specs.declared.engine.Point.{Point}
+use Rattle.tc_sparkle_aead.specs.declared.engine.SparkleEngine.{SparkleEngine}
+use Rattle.tc_sparkle_aead.specs.declared.engine.Done.{Done}
+use Rattle.tc_sparkle_aead.specs.declared.engine.Mac.{Mac}
+use Rattle.tc_sparkle_aead.specs.Variant.{paramsOf}
+use Rattle.tc_sparkle_aead.specs.Engine.{zeros, inArray, noMac, currentKey}
+use Rattle.tc_sparkle_aead.specs.Calls.{stateIn, putState, heldCount, heldBytes, lastState, lastSteps, written, sealTag, sealLast, openBlock, receivedTag, openLast, openTag, ended, readable, sealEnd, openEnd, openEndOutBy}
+use Rattle.tc_sparkle_aead.proofs.VariantLaws.{Small, sizes, small}
+use Rattle.tc_sparkle_aead.proofs.Fill.{length-zeros}
+use Rattle.tc_sparkle_aead.proofs.StateLaws.{all-inArray, state-put, put-state, length-stateIn}
+use Rattle.tc_sparkle_aead.proofs.CallLaws.{heldCount-bound}
+
+-- ---- The state after the last block.
+
+module _ (p : Params) where
+  lastState-some : (s block plain : List ℕ) → 0 < length block → lastState p s block plain ≡ mixLast p 2 s plain
+  unfolding lastState ifEmpty
+  lastState-some s [] plain some = absurd (omega arith)
+  lastState-some s (x ∷ block) plain some = refl
+
+  -- only whether there is a block counts
+  lastState-length : (s a b plain : List ℕ) → length a ≡ length b → lastState p s a plain ≡ lastState p s b plain
+  unfolding lastState ifEmpty
+  lastState-length s [] [] plain e = refl
+  lastState-length s [] (y ∷ b) plain e = absurd (omega arith)
+  lastState-length s (x ∷ a) [] plain e = absurd (omega arith)
+  lastState-length s (x ∷ a) (y ∷ b) plain e = refl
+
+  length-lastState : Sizes p → (s block plain : List ℕ) → length s ≡ stateLength p
+      → length (lastState p s block plain) ≡ stateLength p
+  unfolding lastState ifEmpty
+  length-lastState h s [] plain hs = hs
+  length-lastState h s (x ∷ block) plain hs = length-mixLast p h 2 s plain
+
+  module _ (words buffer : List ℕ) (n : ℕ) where
+    pub put-last-none : n ≡ 0 → words ≡ putState p words (lastState p (stateIn p words) (take n buffer) (take n buffer))
+    unfolding lastState ifEmpty
+    put-last-none e = rw e (sym (put-state p words))
+
+    pub put-last-some : 0 < n → n ≤ length buffer → (r : List ℕ)
+        → r ≡ putState p words (mixLast p 2 (stateIn p words) (take n buffer))
+        → r ≡ putState p words (lastState p (stateIn p words) (take n buffer) (take n buffer))
+    put-last-some some within r e =
+        let b = take n buffer in
+        e ∙ ap (putState p words)
+        (sym (lastState-some (stateIn p words) b b (omega (arith, length-take-le n buffer within))))
+
+-- ---- What is written.
+
+module _ (out : List ℕ) where
+  -- bytes at the start of the output
+  paste-front : (bytes t : List ℕ) (n : ℕ) → take n bytes ≡ t → length t ≡ n → paste out 0 bytes n ≡ written t out
+  unfolding written
+  paste-front bytes t n e l =
+      let k : 0 + n ≡ length t = omega arith in
+      ap₂ (λ (x : List ℕ) (j : ℕ). x ++ drop j out) e k
+
+  -- more bytes behind them
+  paste-behind : (bytes tag t u out₁ out₂ : List ℕ) (n k : ℕ) → out₁ ≡ paste out 0 bytes n → take n bytes ≡ t
+      → length t ≡ n → out₂ ≡ paste out₁ n tag k → take k tag ≡ u → length u ≡ k → out₂ ≡ written (t ++ u) out
+  unfolding written
+  paste-behind bytes tag t u out₁ out₂ n k e₁ et lt e₂ eu lu =
+      let first = e₁ ∙ paste-front bytes t n et lt in
+      let front : take n out₁ ≡ t = ap (take n) first ∙ take-at t (drop (length t) out) n lt in
+      let both : length t + k ≡ length (t ++ u) = omega (arith, length-append t u) in
+      let rest : drop (n + k) out₁ ≡ drop (length (t ++ u)) out =
+      sym (drop-drop k n out₁) ∙ ap (λ (x : List ℕ). drop k (drop n x)) first
+      ∙ ap (drop k) (drop-at t (drop (length t) out) n lt) ∙ drop-drop k (length t) out
+      ∙ ap (λ (j : ℕ). drop j out) both in
+      e₂ ∙ rw (front, eu, rest)
+
+-- ---- The tag and the bytes of the last block, in their arrays.
+
+module _ (p : Params) (h : Sizes p) (f : Small p) (words : List ℕ) (hw : length words ≡ 16) where
+  whole : length (stateIn p words) ≡ stateLength p
+  whole = length-stateIn p h f words hw
+
+  -- the tag after a last block
+  tag-last : (key block plain words′ tag : List ℕ) → words′ ≡ putState p words (lastState p (stateIn p words) block plain)
+      → tag ≡ inArray 32 (tagOf p key (stateIn p words′))
+      → tag ≡ inArray 32 (tagOf p key (lastState p (stateIn p words) block plain))
+  tag-last key block plain words′ tag ew et =
+      let s = lastState p (stateIn p words) block plain in
+      et ∙ ap (λ (x : List ℕ). inArray 32 (tagOf p key x))
+      (ap (stateIn p) ew ∙ state-put p words s (length-lastState p h (stateIn p words) block plain whole))
+
+  length-tag : (key block plain : List ℕ) → length key ≡ 32
+      → length (tagOf p (take (p .key) key) (lastState p (stateIn p words) block plain)) ≡ p .key
+  length-tag key block plain hk =
+      length-tagOf p h (take (p .key) key) (lastState p (stateIn p words) block plain)
+      (length-take-le (p .key) key (omega arith)) (length-lastState p h (stateIn p words) block plain whole)
+
+  -- as many bytes as the block has
+  length-last : (block : List ℕ) (n : ℕ) → length block ≡ n → n ≤ p .rate → length (crypt p (stateIn p words) block) ≡ n
+  length-last block n l within = omega (arith, length-crypt p h (stateIn p words) whole block)
+
+-- ---- The bytes that are held, by the code's own count.
+
+module _ (p : Params) (at : Point) (held : ℕ) (eh : held ≡ heldCount p (at .phase) (at .held)) where
+  held-is : take held (at .buffer) ≡ heldBytes p at
+  unfolding heldBytes
+  held-is = ap (λ (n : ℕ). take n (at .buffer)) eh
+
+  length-held : Small p → length (at .buffer) ≡ 64 → length (heldBytes p at) ≡ held
+  length-held f hb =
+      ap length (sym held-is)
+      ∙ length-take-le held (at .buffer) (omega (arith, heldCount-bound p f (at .phase) (at .held)))
+
+-- ---- The end of a sealing.
+
+module _ (e : SparkleEngine) (hw : length (e .current .words) ≡ 16) (hb : length (e .current .buffer) ≡ 64)
+    (hk : length (e .pair .key) ≡ 32) (held : ℕ)
+    (eh : held ≡ heldCount (paramsOf (e .variant)) (e .current .phase) (e .current .held)) (words tag : List ℕ)
+    (ew : words
+    ≡ putState (paramsOf (e .variant)) (e .current .words)
+    (lastState (paramsOf (e .variant)) (stateIn (paramsOf (e .variant)) (e .current .words))
+    (take held (e .current .buffer)) (take held (e .current .buffer))))
+    (et : tag
+    ≡ inArray 32
+    (tagOf (paramsOf (e .variant)) (take (paramsOf (e .variant) .key) (e .pair .key))
+    (stateIn (paramsOf (e .variant)) words))) where
+  tag-sealed : tag ≡ inArray 32 (sealTag e)
+  unfolding sealTag currentKey
+  tag-sealed =
+      let p = paramsOf (e .variant) in
+      tag-last p (sizes (e .variant)) (small (e .variant)) (e .current .words) hw (take (p .key) (e .pair .key)) _ _ words
+      tag (rw (held-is p (e .current) held eh) at ew) et
+
+  pub sealed : (n steps : ℕ) (engine : SparkleEngine) → steps ≡ cond (ltb 0 held) (paramsOf (e .variant) .big) 0
+      → engine ≡ ended e Encrypt (record { readable = true; bytes = tag }) steps
+      → _≡_ {A = Done} (record { answer = Ok n; engine = engine }) (sealEnd e n)
+  unfolding sealEnd readable lastSteps
+  sealed n steps engine es ee =
+      ap (λ (x : SparkleEngine). record { answer = Ok n; engine = x })
+      (ee ∙ rw (tag-sealed, es, length-held (paramsOf (e .variant)) (e .current) held eh (small (e .variant)) hb))
+
+  pub sealed-out : (bytes out out₁ out₂ : List ℕ) (k : ℕ) → held ≤ paramsOf (e .variant) .rate
+      → bytes
+      ≡ inArray 64
+      (crypt (paramsOf (e .variant)) (stateIn (paramsOf (e .variant)) (e .current .words))
+      (take held (e .current .buffer)))
+      → out₁ ≡ paste out 0 bytes held → k ≡ paramsOf (e .variant) .key → out₂ ≡ paste out₁ held tag k
+      → out₂ ≡ written (sealLast e ++ sealTag e) out
+  unfolding sealLast sealTag currentKey
+  sealed-out bytes out out₁ out₂ k within eb e₁ ek e₂ =
+      let p = paramsOf (e .variant) in
+      let h = sizes (e .variant) in
+      let f = small (e .variant) in
+      let w = e .current .words in
+      let b = heldBytes p (e .current) in
+      let last = length-last p h f w hw b held (length-held p (e .current) held eh f hb) within in
+      let size = length-tag p h f w hw (e .pair .key) b b hk in
+      paste-behind out bytes tag _ _ out₁ out₂ held k e₁
+      (ap (take held) (rw (held-is p (e .current) held eh) at eb) ∙ all-inArray held 64 _ last (omega arith)) last e₂
+      (ap (take k) tag-sealed ∙ all-inArray k 32 _ (size ∙ sym ek) (omega arith)) (size ∙ sym ek)
+
+-- ---- The end of an opening.
+
+-- what the code has of an opening before it writes: the bytes that the last block becomes, in an array, its tag, its
+-- steps, and whether the tag is the received one
+pub record Opening (e : SparkleEngine) (body : ℕ) (plain tag : List ℕ) (steps : ℕ) (equal : Bool) : Type 0 where
+  pub within : body ≤ 64
+  pub block : length (openBlock e) ≡ body
+  pub bytes : take body plain ≡ openLast e
+  pub last : length (openLast e) ≡ body
+  pub mac : tag ≡ inArray 32 (openTag e)
+  pub run : steps ≡ lastSteps (paramsOf (e .variant)) (openBlock e)
+  pub verdict : equal ≡ same (receivedTag e) (openTag e)
+
+module _ (e : SparkleEngine) (hw : length (e .current .words) ≡ 16) (hb : length (e .current .buffer) ≡ 64)
+    (hk : length (e .pair .key) ≡ 32) (held size : ℕ)
+    (eh : held ≡ heldCount (paramsOf (e .variant)) (e .current .phase) (e .current .held))
+    (ez : size ≡ paramsOf (e .variant) .key) (enough : size ≤ held) where
+  body-is : length (heldBytes (paramsOf (e .variant)) (e .current)) - paramsOf (e .variant) .key ≡ held - size
+  body-is = omega (arith, length-held (paramsOf (e .variant)) (e .current) held eh (small (e .variant)) hb)
+
+  block-is : take (held - size) (e .current .buffer) ≡ openBlock e
+  unfolding openBlock
+  block-is =
+      rw (body-is, ← held-is (paramsOf (e .variant)) (e .current) held eh)
+      (sym (take-take (held - size) held (e .current .buffer) (omega arith)))
+
+  received-is : take size (drop (held - size) (e .current .buffer)) ≡ receivedTag e
+  unfolding receivedTag
+  received-is =
+      let b = e .current .buffer in
+      let split : held ≡ held - size + size = omega arith in
+      let bound = heldCount-bound (paramsOf (e .variant)) (small (e .variant)) (e .current .phase) (e .current .held) in
+      rw (body-is, ← held-is (paramsOf (e .variant)) (e .current) held eh)
+      (sym (ap (λ (n : ℕ). drop (held - size) (take n b)) split ∙ ap (drop (held - size)) (take-add (held - size) size b)
+      ∙ drop-at (take (held - size) b) (take size (drop (held - size) b)) (held - size)
+      (length-take-le (held - size) b (omega arith))))
+
+  pub opening-is : held ≤ paramsOf (e .variant) .rate + paramsOf (e .variant) .key
+      → (plain words tag : List ℕ) (steps : ℕ) (equal : Bool)
+      → plain
+      ≡ inArray 64
+      (crypt (paramsOf (e .variant)) (stateIn (paramsOf (e .variant)) (e .current .words))
+      (take (held - size) (e .current .buffer)))
+      → words
+      ≡ putState (paramsOf (e .variant)) (e .current .words)
+      (lastState (paramsOf (e .variant)) (stateIn (paramsOf (e .variant)) (e .current .words)) (take (held - size) plain)
+      (take (held - size) plain))
+      → tag
+      ≡ inArray 32
+      (tagOf (paramsOf (e .variant)) (take (paramsOf (e .variant) .key) (e .pair .key))
+      (stateIn (paramsOf (e .variant)) words))
+      → steps ≡ cond (ltb 0 (held - size)) (paramsOf (e .variant) .big) 0
+      → equal ≡ same (take size (drop (held - size) (e .current .buffer))) (take size tag)
+      → Opening e (held - size) plain tag steps equal
+  unfolding openLast openTag currentKey lastSteps
+  opening-is small-enough plain words tag steps equal ep ew et es eq =
+      let p = paramsOf (e .variant) in
+      let h = sizes (e .variant) in
+      let f = small (e .variant) in
+      let w = e .current .words in
+      let body = held - size in
+      let fits : body ≤ 64 = omega arith in
+      let block = ap length (sym block-is) ∙ length-take-le body (e .current .buffer) (omega arith) in
+      let last = length-last p h f w hw (openBlock e) body block (omega arith) in
+      let bytes = ap (take body) (rw block-is at ep) ∙ all-inArray body 64 (openLast e) last fits in
+      let mac =
+      tag-last p h f w hw (take (p .key) (e .pair .key)) (openLast e) (openLast e) words tag (rw bytes at ew) et
+      ∙ ap (λ (s : List ℕ). inArray 32 (tagOf p (take (p .key) (e .pair .key)) s))
+      (lastState-length p (stateIn p w) (openLast e) (openBlock e) (openLast e) (last ∙ sym block)) in
+      let length-mac = length-tag p h f w hw (e .pair .key) (openBlock e) (openLast e) hk in
+      record {
+        within = fits;
+        block = block;
+        bytes = bytes;
+        last = last;
+        mac = mac;
+        run = es ∙ rw block;
+        verdict =
+            eq ∙ ap₂ same received-is
+            (ap (take size) mac ∙ all-inArray size 32 (openTag e) (length-mac ∙ sym ez) (omega arith));
+      }
+
+take-zeros : (n m : ℕ) → n ≤ m → take n (zeros m) ≡ zeros n
+unfolding zeros
+take-zeros zero m h = refl
+take-zeros (suc n) zero h = absurd (omega arith)
+take-zeros (suc n) (suc m) h = ap (_∷_ 0) (take-zeros n m (omega arith))
+
+module _ {e : SparkleEngine} {body steps : ℕ} {plain tag : List ℕ} {equal : Bool}
+    (o : Opening e body plain tag steps equal) where
+  -- the received tag is right
+  pub opened : (n : ℕ) (engine : SparkleEngine) → equal ≡ true
+      → engine ≡ ended e Decrypt (record { readable = true; bytes = tag }) steps
+      → _≡_ {A = Done} (record { answer = Ok n; engine = engine }) (openEnd e n)
+  unfolding openEnd readable
+  opened n engine right ee =
+      rw (sym (o .verdict) ∙ right)
+      (ap (λ (x : SparkleEngine). record { answer = Ok n; engine = x }) (ee ∙ rw (o .mac, o .run)))
+
+  pub opened-out : (out out₁ : List ℕ) → equal ≡ true → out₁ ≡ paste out 0 plain body
+      → out₁ ≡ written (openEndOutBy (same (receivedTag e) (openTag e)) e) out
+  opened-out out out₁ right e₁ =
+      rw (sym (o .verdict) ∙ right) (e₁ ∙ paste-front out plain (openLast e) body (o .bytes) (o .last))
+
+  -- it is wrong
+  pub unopened : (n : ℕ) (engine : SparkleEngine) (mac : Mac) → equal ≡ false → mac ≡ noMac → engine ≡ ended e Decrypt mac steps
+      → _≡_ {A = Done} (record { answer = Err AuthenticationFailed; engine = engine }) (openEnd e n)
+  unfolding openEnd
+  unopened n engine mac wrong em ee =
+      rw (sym (o .verdict) ∙ wrong)
+      (ap (λ (x : SparkleEngine). record { answer = Err AuthenticationFailed; engine = x }) (ee ∙ rw (em, o .run)))
+
+  pub unopened-out : (out out₁ : List ℕ) → equal ≡ false → out₁ ≡ paste out 0 (zeros 64) body
+      → out₁ ≡ written (openEndOutBy (same (receivedTag e) (openTag e)) e) out
+  unopened-out out out₁ wrong e₁ =
+      rw (sym (o .verdict) ∙ wrong, o .block)
+      (e₁ ∙ paste-front out (zeros 64) (zeros body) body (take-zeros body 64 (o .within)) (length-zeros body))

@@ -1,0 +1,67 @@
+-- `do_final` goes by its check, and where that passes by the direction; a check that passes gives the callees their room.
+use mathlib.Core.Path.{sym, _∙_}
+use borrow.Author.Needs.{needs}
+use Rattle.tc_sparkle_aead.proofs.FinalLaws.{Taken, seal-fits, final-sealed, final-sealed-out, open-fits, final-opened, final-opened-out, final-refused, final-refused-out}
+use Rattle.tc_sparkle_aead.proofs.aead_cipher.do_final.Statement.{statement}
+use Rattle.tc_sparkle_aead.proofs.aead_cipher.do_final.Tie as tie
+
+-- what is known where the direction is told
+taken : (c : tie.After-opening)
+    → Taken (c .before .before .before .before .before .before .before .before .args .e) (c .before .begin-data .result)
+    (c .before .before .before .before .before .before .before .before .args .output .now)
+    (c .before .before .before .n .given .0 .0) (c .opening .result)
+taken c =
+    let n = c .before .before .before in
+    record {
+      passed = sym (n .before .before .end-check .ensures) ∙ n .n .given .1;
+      begins = c .before .begin-data .ensures;
+      direction = c .opening .ensures;
+    }
+
+open-end-requires : tie.Need-open-end-requires
+open-end-requires c κs = open-fits (taken (c .before .before)) (c .before .if1 .taken)
+
+returns : tie.Need-returns
+returns c =
+    let end = c .before .before in
+    let branch = end .before .before in
+    let t = taken (branch .before) in (
+      final-opened t (branch .if1 .taken) _ (end .open-end .ensures .0),
+      final-opened-out t (branch .if1 .taken) _ (end .open-end .ensures .1),
+    )
+
+seal-end-requires : tie.Need-seal-end-requires
+seal-end-requires c κs = seal-fits (taken (c .before .before)) (c .before .if1 .left)
+
+returns-2 : tie.Need-returns-2
+returns-2 c =
+    let checked = c .before .before .before in
+    let s = checked .before .before .before in
+    let no = sym (checked .end-check .ensures) ∙ c .before .x .given .1 in
+    (final-refused (s .args .e) (s .args .output .now) _ no, final-refused-out (s .args .e) (s .args .output .now) _ no)
+
+returns-3 : tie.Need-returns-3
+returns-3 c =
+    let end = c .before .before in
+    let branch = end .before .before in
+    let t = taken (branch .before) in (
+      final-sealed t (branch .if1 .left) _ (end .seal-end .ensures .0),
+      final-sealed-out t (branch .if1 .left) _ (end .seal-end .ensures .1),
+    )
+
+pub do-final-spec : {M : Type 1} → statement M
+do-final-spec =
+    tie.close
+    (tie.spec
+    (λ c κs. search needs)
+    (λ c. search needs)
+    (λ c. search needs)
+    (λ c κs. search needs)
+    (λ c κs. search needs)
+    open-end-requires
+    (λ c. search needs)
+    returns
+    seal-end-requires
+    returns-2
+    (λ c. search needs)
+    returns-3)

@@ -1,0 +1,12 @@
+-- `no_mac` is no readable tag, by computation.
+use mathlib.Core.Path.{refl}
+use Rattle.tc_sparkle_aead.specs.Engine.{zeros, noMac}
+use Rattle.tc_sparkle_aead.proofs.engine.no_mac.Statement.{statement}
+use Rattle.tc_sparkle_aead.proofs.engine.no_mac.Tie as tie
+
+returns : tie.Need-returns
+unfolding zeros noMac
+returns c = refl
+
+pub no-mac-spec : {M : Type 1} → statement M
+no-mac-spec = tie.close (tie.spec returns)

@@ -1,0 +1,98 @@
+-- `open_end` has the last bytes, the tag and its verdict from its callees, and then writes and ends by the verdict.
+use mathlib.Core.Path.{_≡_}
+use Prim.Native.Nat.{_+_, _-_, _≤_}
+use native.Mathlib.Omega.{arith}
+use borrow.Author.Needs.{needs}
+use lib.ListN.{length}
+use Rattle.tc_sparkle_aead.specs.Engine.{zeros}
+use Rattle.tc_sparkle_aead.proofs.VariantLaws.{small}
+use Rattle.tc_sparkle_aead.proofs.EndLaws.{Opening, opening-is, opened, opened-out, unopened, unopened-out}
+use Rattle.tc_sparkle_aead.proofs.engine.open_end.Statement.{statement}
+use Rattle.tc_sparkle_aead.proofs.engine.open_end.Tie as tie
+
+words-long : (s : tie.Start) → length (s .args .e .current .words) ≡ 16
+words-long s = search needs
+
+buffer-long : (s : tie.Start) → length (s .args .e .current .buffer) ≡ 64
+buffer-long s = search needs
+
+key-long : (s : tie.Start) → length (s .args .e .pair .key) ≡ 32
+key-long s = search needs
+
+-- the held bytes end with a tag, and what is before it fits a block and the output
+fits : (c : tie.After-held-count)
+    → (c .before .tag-bytes .result ≤ 32) × (c .before .tag-bytes .result ≤ c .held-count .result)
+    × (c .held-count .result ≤ 64)
+    × (c .held-count .result
+    ≤ length (c .before .before .before .before .before .before .before .before .args .output .now) + c .before .tag-bytes .result)
+fits c =
+    let sized = c .before in
+    let s = sized .before .before .before .before .before .before .before in
+    omega (arith, c .held-count .ensures, sized .tag-bytes .ensures, small (s .args .e .variant), s .pre)
+
+same-tag-requires : tie.Need-same-tag-requires
+same-tag-requires c κs = omega (arith, fits (c .before .before .before .before))
+
+put-requires : tie.Need-put-requires
+put-requires c κs = omega (arith, fits (c .before .before .before .before .before .before .before))
+
+put-requires-2 : tie.Need-put-requires-2
+put-requires-2 c κs = omega (arith, fits (c .before .before .before .before .before .before .before))
+
+-- what is computed before the verdict's branch
+computed : (c : tie.After-same-tag)
+    → Opening (c .before .before .before .before .before .before .before .before .before .before .before .before .before .args .e)
+    (c .before .before .before .before .before .held-count .result - c .before .before .before .before .before .before .tag-bytes .result)
+    (c .before .before .before .before .crypt .result) (c .before .before .make-tag .result) (c .before .last-steps .result)
+    (c .same-tag .result)
+computed c =
+    let made = c .before .before in
+    let counted = made .before .before .before in
+    let sized = counted .before in
+    let s = sized .before .before .before .before .before .before .before in
+    let held = counted .held-count .ensures in
+    let size = sized .tag-bytes .ensures in
+    opening-is (s .args .e) (words-long s) (buffer-long s) (key-long s) _ _ held size (omega (arith, held, size, s .pre))
+    (omega (arith, held, s .pre)) _ _ _ _ _ (made .before .before .crypt .ensures) (made .before .last-words .ensures)
+    (made .make-tag .ensures) (c .before .last-steps .ensures) (c .same-tag .ensures)
+
+returns : tie.Need-returns
+returns c =
+    let put = c .before .before .before in
+    let branch = put .before .before in
+    let o = computed (branch .before) in (
+      opened o _ _ (branch .if1 .taken) (c .ended .ensures),
+      opened-out o _ _ (branch .if1 .taken) (put .put .ensures),
+    )
+
+returns-2 : tie.Need-returns-2
+unfolding zeros
+returns-2 c =
+    let put = c .before .before .before .before in
+    let branch = put .before .before in
+    let o = computed (branch .before) in (
+      unopened o _ _ _ (branch .if1 .left) (c .before .no-mac .ensures) (c .ended2 .ensures),
+      unopened-out o _ _ (branch .if1 .left) (put .put2 .ensures),
+    )
+
+pub open-end-spec : {M : Type 1} → statement M
+open-end-spec =
+    tie.close
+    (tie.spec
+    (λ c κs. search needs)
+    (λ c κs. search needs)
+    (λ c. search needs)
+    (λ c κs. search needs)
+    (λ c κs. search needs)
+    (λ c κs. search needs)
+    (λ c κs. search needs)
+    same-tag-requires
+    put-requires
+    (λ c κs. search needs)
+    (λ c. search needs)
+    returns
+    put-requires-2
+    (λ c κs. search needs)
+    (λ c κs. search needs)
+    (λ c. search needs)
+    returns-2)

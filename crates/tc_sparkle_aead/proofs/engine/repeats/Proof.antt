@@ -1,0 +1,83 @@
+-- `repeats` compares lengths, asks whether there is a pair, and then compares its parts.
+use mathlib.Core.Path.{_≡_, refl, sym, ap, _∙_}
+use mathlib.Core.Bool.{Bool, false, cond}
+use native.Mathlib.Omega.{arith}
+use lib.ListN.{length, take}
+use borrow.Author.Tests.{not-true, not-false}
+use Rattle.schwaemm.specs.Bytes.{same}
+use Rattle.tc_sparkle_aead.proofs.VariantLaws.{small}
+use Rattle.tc_sparkle_aead.proofs.StartCheckLaws.{repeats-key, repeats-nonce, repeats-none, repeats-pair}
+use borrow.Author.Needs.{needs}
+use Rattle.tc_sparkle_aead.proofs.engine.repeats.Statement.{statement}
+use Rattle.tc_sparkle_aead.proofs.engine.repeats.Tie as tie
+
+key-length : (c : tie.Start) → length (c .args .pair .key) ≡ 32
+key-length c = search needs
+
+nonce-length : (c : tie.Start) → length (c .args .pair .nonce) ≡ 32
+nonce-length c = search needs
+
+returns : tie.Need-returns
+returns c =
+    let s = c .before .before .before .before .before in
+    repeats-key _ _ _ _ (omega (arith, key-length s, small (s .args .variant))) (omega (arith, c .before .before .key-bytes .ensures))
+
+returns-2 : tie.Need-returns-2
+returns-2 c =
+    let s = c .before .before .before .before .before .before in
+    repeats-nonce _ _ _ _ (omega (arith, nonce-length s, small (s .args .variant))) (omega (arith, c .before .before .nonce-bytes .ensures))
+
+returns-3 : tie.Need-returns-3
+returns-3 c = repeats-none _ _ _ _ (not-true _ (c .if3 .taken))
+
+same-bytes-requires : tie.Need-same-bytes-requires
+same-bytes-requires c κs =
+    let key = c .before .before .before .before .before .before .before .before in
+    let s = key .before .before .before in
+    omega (arith, key-length s, small (s .args .variant), key .key-bytes .ensures)
+
+same-bytes-requires-2 : tie.Need-same-bytes-requires-2
+same-bytes-requires-2 c κs =
+    let nonce = c .before .before .before .before .before .before .before .before .before .before in
+    let s = nonce .before .before .before .before in
+    omega (arith, nonce-length s, small (s .args .variant), nonce .nonce-bytes .ensures)
+
+returns-4 : tie.Need-returns-4
+returns-4 c =
+    let both = c .before .before in
+    let first = both .before in
+    let loaded = first .before .before .before .before in
+    let nonce = loaded .before .before .before .before in
+    let key = nonce .before in
+    let s = key .before .before .before .args in
+    sym (ap (λ (t : Bool). cond t (c .same-bytes2 .result) false) (both .if4 .taken))
+    ∙ repeats-pair _ (s .pair) (s .key .now) (s .nonce .now) _ _ _ _ (key .key-bytes .ensures) (nonce .nonce-bytes .ensures)
+    (omega arith) (omega arith) (not-false _ (loaded .if3 .left)) (first .same-bytes .ensures) (c .same-bytes2 .ensures)
+
+returns-5 : tie.Need-returns-5
+returns-5 c =
+    let first = c .before in
+    let loaded = first .before .before .before .before in
+    let nonce = loaded .before .before .before .before in
+    let key = nonce .before in
+    let s = key .before .before .before .args in
+    let n = nonce .nonce-bytes .result in
+    sym (ap (λ (t : Bool). cond t (same (take n (s .pair .nonce)) (take n (s .nonce .now))) false) (c .if4 .left))
+    ∙ repeats-pair _ (s .pair) (s .key .now) (s .nonce .now) _ _ _ _ (key .key-bytes .ensures) (nonce .nonce-bytes .ensures)
+    (omega arith) (omega arith) (not-false _ (loaded .if3 .left)) (first .same-bytes .ensures) refl
+
+pub repeats-spec : {M : Type 1} → statement M
+repeats-spec =
+    tie.close
+    (tie.spec
+    (λ c κs. search needs)
+    (λ c κs. search needs)
+    returns
+    returns-2
+    returns-3
+    (λ c. search needs)
+    same-bytes-requires
+    (λ c. search needs)
+    same-bytes-requires-2
+    returns-4
+    returns-5)

@@ -1,0 +1,171 @@
+// The calls (the Rust's trait files and their implementation in engine.rs): the engine goes in by
+// value and comes back by value. Each contract is an equation with a definition for the reply, the
+// engine and the lent output, for every engine value.
+ghost use mathlib.Core.Path.{_≡_};
+ghost use Rattle.tc_sparkle_aead.specs.Engine.{updateOutputLen, outputLen};
+ghost use Rattle.tc_sparkle_aead.specs.Calls.{init, processAadBytes, processBytes, processBytesOut, doFinal, doFinalOut, reset, macOf, stepsNow};
+use super::aead_error::AeadResult;
+use super::aead_init_error::AeadInitResult;
+use super::checks;
+use super::engine;
+use super::engine::Done;
+use super::engine::Mac;
+use super::engine::SparkleEngine;
+use super::engine::Started;
+use super::engine::Steps;
+use super::phase::Direction;
+
+// Ends the old message and starts a new one.
+pub fn init(
+    e: SparkleEngine,
+    direction: Direction,
+    key: &[u8],
+    nonce: &[u8],
+    size: usize,
+    header: &[u8],
+) -> Started
+    ensures { λ r. ⌜ r ≡ init e direction (now (key .entry)) (now (nonce .entry)) size (now (header .entry)) ⌝ }
+{
+    let variant = e.variant;
+    let pair = e.pair;
+    let again = engine::repeats(variant, pair, key, nonce);
+    match checks::start_check(variant, direction, key.len(), nonce.len(), size, again) {
+        AeadInitResult::Ok => Started {
+            answer: AeadInitResult::Ok,
+            engine: engine::start(e, direction, key, nonce, header),
+        },
+        AeadInitResult::Err(x) => Started {
+            answer: AeadInitResult::Err(x),
+            engine: engine::refused(e),
+        },
+    }
+}
+
+// Adds associated data to the message.
+pub fn process_aad_bytes(e: SparkleEngine, input: &[u8]) -> Done
+    ensures { λ r. ⌜ r ≡ processAadBytes e (now (input .entry)) ⌝ }
+{
+    let at = e.current;
+    let phase = at.phase;
+    match checks::aad_check(phase, input.len()) {
+        AeadResult::Err(x) => Done {
+            answer: AeadResult::Err(x),
+            engine: e,
+        },
+        AeadResult::Ok(_) => {
+            if input.len() == 0 {
+                return Done {
+                    answer: AeadResult::Ok(0),
+                    engine: e,
+                };
+            }
+            Done {
+                answer: AeadResult::Ok(0),
+                engine: engine::header_in(e, input),
+            }
+        }
+    }
+}
+
+// Seals or opens the input that is ready and holds back the rest.
+pub fn process_bytes(e: SparkleEngine, input: &[u8], output: &mut [u8]) -> Done
+    ensures { λ r. ⌜ r ≡ processBytes e (now (input .entry)) (now (output .entry)) ⌝ }
+    ensures { λ _. ⌜ now (output .exit) ≡ processBytesOut e (now (input .entry)) (now (output .entry)) ⌝ }
+{
+    let variant = e.variant;
+    let at = e.current;
+    let phase = at.phase;
+    match checks::data_check(variant, phase, at.held, input.len(), output.len()) {
+        AeadResult::Err(x) => Done {
+            answer: AeadResult::Err(x),
+            engine: e,
+        },
+        AeadResult::Ok(n) => {
+            let begun = engine::begin_data(e);
+            Done {
+                answer: AeadResult::Ok(n),
+                engine: engine::data_in(begun, input, output),
+            }
+        }
+    }
+}
+
+// Ends the message: appends the tag, or verifies it.
+pub fn do_final(e: SparkleEngine, output: &mut [u8]) -> Done
+    ensures { λ r. ⌜ r ≡ doFinal e (now (output .entry)) ⌝ }
+    ensures { λ _. ⌜ now (output .exit) ≡ doFinalOut e (now (output .entry)) ⌝ }
+{
+    let variant = e.variant;
+    let at = e.current;
+    let phase = at.phase;
+    match checks::end_check(variant, phase, at.held, output.len()) {
+        AeadResult::Err(x) => Done {
+            answer: AeadResult::Err(x),
+            engine: e,
+        },
+        AeadResult::Ok(n) => {
+            let begun = engine::begin_data(e);
+            if checks::opening(phase) {
+                return engine::open_end(begun, n, output);
+            }
+            engine::seal_end(begun, n, output)
+        }
+    }
+}
+
+// How many bytes the next data call of n bytes writes.
+pub fn update_output_len(e: SparkleEngine, n: usize) -> AeadResult
+    ensures { λ r. ⌜ r ≡ updateOutputLen e n ⌝ }
+{
+    let v = e.variant;
+    let at = e.current;
+    let phase = at.phase;
+    checks::update_len(v, phase, at.held, n)
+}
+
+// How many bytes data calls of n bytes and the end write together.
+pub fn output_len(e: SparkleEngine, n: usize) -> AeadResult
+    ensures { λ r. ⌜ r ≡ outputLen e n ⌝ }
+{
+    let v = e.variant;
+    let at = e.current;
+    let phase = at.phase;
+    checks::total_len(v, phase, at.held, n)
+}
+
+// Drops the readable tag and restarts the message, unless a sealing has begun its data.
+pub fn reset(e: SparkleEngine) -> SparkleEngine
+    ensures { λ r. ⌜ r ≡ reset e ⌝ }
+{
+    let at = e.current;
+    let phase = at.phase;
+    let initial = e.initial;
+    let steps = e.steps;
+    let current = engine::reset_point(phase, initial);
+    let mac = engine::no_mac();
+    let back = Steps {
+        current: steps.initial,
+        initial: steps.initial,
+    };
+    let mut r = e;
+    r.current = current;
+    r.mac = mac;
+    r.steps = back;
+    r
+}
+
+// The tag after a successful end, until the next init or reset.
+pub fn mac(e: SparkleEngine) -> Mac
+    ensures { λ r. ⌜ r ≡ macOf e ⌝ }
+{
+    let m = e.mac;
+    if m.readable { m } else { engine::no_mac() }
+}
+
+// The permutation steps of the current message, modulo 2^64.
+pub fn steps(e: SparkleEngine) -> u64
+    ensures { λ r. ⌜ r ≡ stepsNow e ⌝ }
+{
+    let s = e.steps;
+    s.current
+}

@@ -1,0 +1,420 @@
+// Blocks of the message and the state (the Rust's process_aad_block, process_data_block and
+// process_final_data in engine.rs), general in the variant. Bytes are taken from the held ones and
+// the input together, as one stream, so that nothing is moved on the way.
+ghost use mathlib.Core.Path.{_≡_};
+ghost use mathlib.Core.List.{_++_};
+ghost use Prim.Native.Nat.{_+_, _*_, _/_, _%_, _≤_, _<_};
+ghost use lib.ListN.{length, take, drop, getD};
+ghost use lib.Seq.{paste};
+ghost use Rattle.schwaemm.specs.Bytes.{toWords, toBytes, same};
+ghost use Rattle.schwaemm.specs.Blocks.{after, given};
+ghost use Rattle.schwaemm.specs.Schwaemm.{permute, mix, crypt, padded, domain, withDomain, mixLast, initialise, absorbBlock, messageBlock, opening, tagOf};
+ghost use Rattle.tc_sparkle_aead.specs.Variant.{paramsOf};
+ghost use Rattle.tc_sparkle_aead.specs.Engine.{inArray};
+ghost use Rattle.tc_sparkle_aead.specs.Calls.{stateIn, putState, feedbackAt, whiteningAt, plainBy};
+use super::variant::SparkleVariant;
+use sparkle::scalar::StateWords;
+
+// ---- bytes
+
+// A byte of the held ones followed by the input.
+fn byte_at(buffer: [u8; 64], held: usize, input: &[u8], at: usize) -> u8
+    requires { ⌜ (held ≤ 64) × (at < held + length (now input)) ⌝ }
+    ensures { λ r. ⌜ r ≡ getD (take held buffer ++ now (input .entry)) at 0 ⌝ }
+{
+    if at < held {
+        buffer[at]
+    } else {
+        input[at - held]
+    }
+}
+
+// n of these bytes, from `pos` on.
+pub(crate) fn gather(buffer: [u8; 64], held: usize, input: &[u8], pos: usize, n: usize) -> [u8; 64]
+    requires { ⌜ (held ≤ 64) × (n ≤ 64) × (pos + n ≤ held + length (now input)) ⌝ }
+    ensures { λ r. ⌜ r ≡ inArray 64 (take n (drop pos (take held buffer ++ now (input .entry)))) ⌝ }
+{
+    let mut r = [0u8; 64];
+    let mut i = 0;
+    while i < n {
+        r[i] = byte_at(buffer, held, input, pos + i);
+        i += 1;
+    }
+    r
+}
+
+// The first n bytes of an array.
+pub(crate) fn first_bytes(buffer: [u8; 64], n: usize) -> [u8; 64]
+    requires { ⌜ n ≤ 64 ⌝ }
+    ensures { λ r. ⌜ r ≡ inArray 64 (take n buffer) ⌝ }
+{
+    let mut r = [0u8; 64];
+    let mut i = 0;
+    while i < n {
+        r[i] = buffer[i];
+        i += 1;
+    }
+    r
+}
+
+// A slice of at most 32 bytes, with zeros behind it.
+pub(crate) fn in_array(bytes: &[u8]) -> [u8; 32]
+    requires { ⌜ length (now bytes) ≤ 32 ⌝ }
+    ensures { λ r. ⌜ r ≡ inArray 32 (now (bytes .entry)) ⌝ }
+{
+    let mut r = [0u8; 32];
+    let mut i = 0;
+    while i < bytes.len() {
+        r[i] = bytes[i];
+        i += 1;
+    }
+    r
+}
+
+// n bytes of an array written to the output from `pos` on.
+pub(crate) fn put(output: &mut [u8], pos: usize, bytes: [u8; 64], n: usize)
+    requires { ⌜ (n ≤ 64) × (pos + n ≤ length (now output)) ⌝ }
+    ensures { λ _. ⌜ now (output .exit) ≡ paste (now (output .entry)) pos bytes n ⌝ }
+{
+    let mut i = 0;
+    while i < n {
+        output[pos + i] = bytes[i];
+        i += 1;
+    }
+}
+
+// The same for a tag.
+pub(crate) fn put_tag(output: &mut [u8], pos: usize, tag: [u8; 32], n: usize)
+    requires { ⌜ (n ≤ 32) × (pos + n ≤ length (now output)) ⌝ }
+    ensures { λ _. ⌜ now (output .exit) ≡ paste (now (output .entry)) pos tag n ⌝ }
+{
+    let mut i = 0;
+    while i < n {
+        output[pos + i] = tag[i];
+        i += 1;
+    }
+}
+
+// Whether n bytes of a buffer from `at` on are a tag's; all of them are looked at.
+pub(crate) fn same_tag(buffer: [u8; 64], at: usize, tag: [u8; 32], n: usize) -> bool
+    requires { ⌜ (n ≤ 32) × (at + n ≤ 64) ⌝ }
+    ensures { λ r. ⌜ r ≡ same (take n (drop at buffer)) (take n tag) ⌝ }
+{
+    let mut equal = true;
+    let mut i = 0;
+    while i < n {
+        if buffer[at + i] != tag[i] {
+            equal = false;
+        }
+        i += 1;
+    }
+    equal
+}
+
+// Whether the first n bytes of two slices are the same; all of them are looked at.
+pub(crate) fn same_bytes(a: &[u8], b: &[u8], n: usize) -> bool
+    requires { ⌜ (n ≤ length (now a)) × (n ≤ length (now b)) ⌝ }
+    ensures { λ r. ⌜ r ≡ same (take n (now (a .entry))) (take n (now (b .entry))) ⌝ }
+{
+    let mut equal = true;
+    let mut i = 0;
+    while i < n {
+        if a[i] != b[i] {
+            equal = false;
+        }
+        i += 1;
+    }
+    equal
+}
+
+// ---- words
+
+// Word k of an array of bytes, little-endian.
+fn word_at(bytes: [u8; 64], k: usize) -> u32
+    requires { ⌜ k < 16 ⌝ }
+    ensures { λ r. ⌜ r ≡ getD (toWords bytes) k 0 ⌝ }
+{
+    let i = k * 4;
+    let a = bytes[i] as u32;
+    let b = bytes[i + 1] as u32;
+    let c = bytes[i + 2] as u32;
+    let d = bytes[i + 3] as u32;
+    a + b * 0x100 + c * 0x1_0000 + d * 0x100_0000
+}
+
+// The words of an array of bytes.
+fn words_of(bytes: [u8; 64]) -> [u32; 16]
+    ensures { λ r. ⌜ r ≡ toWords bytes ⌝ }
+{
+    let mut r = [0u32; 16];
+    let mut k = 0;
+    while k < 16 {
+        r[k] = word_at(bytes, k);
+        k += 1;
+    }
+    r
+}
+
+// Byte i of an array of words, little-endian.
+fn state_byte(words: [u32; 16], i: usize) -> u8
+    requires { ⌜ i < 64 ⌝ }
+    ensures { λ r. ⌜ r ≡ getD (toBytes words) i 0 ⌝ }
+{
+    let w = words[i / 4];
+    let shift = (i % 4) as u32 * 8;
+    ((w >> shift) % 256) as u8
+}
+
+// ---- the state
+
+// The permutation on the state.
+pub(crate) fn permute(variant: SparkleVariant, words: [u32; 16], steps: u32) -> [u32; 16]
+    ensures { λ r. ⌜ r ≡ putState (paramsOf variant) words (permute (paramsOf variant) steps (stateIn (paramsOf variant) words)) ⌝ }
+{
+    match variant {
+        SparkleVariant::Schwaemm128_128 => {
+            sparkle::scalar::sparkle_scalar(words, StateWords::Words8, steps)
+        }
+        SparkleVariant::Schwaemm256_128 => {
+            sparkle::scalar::sparkle_scalar(words, StateWords::Words12, steps)
+        }
+        SparkleVariant::Schwaemm192_192 => {
+            sparkle::scalar::sparkle_scalar(words, StateWords::Words12, steps)
+        }
+        SparkleVariant::Schwaemm256_256 => sparkle::sse2::sparkle_opt16(words, steps),
+    }
+}
+
+// Word k of the feedback: the rate's right half, then both halves xored. `half` is half the rate, in
+// words.
+fn feedback(words: [u32; 16], half: usize, k: usize) -> u32
+    requires { ⌜ (half ≤ 8) × (k < half + half) ⌝ }
+    ensures { λ r. ⌜ r ≡ feedbackAt words half k ⌝ }
+{
+    if k < half {
+        words[k + half]
+    } else {
+        words[k] ^ words[k - half]
+    }
+}
+
+// Word k of the whitening: the capacity's words, repeated where the rate is longer. `rate` and `key`
+// are in words.
+fn whitening(words: [u32; 16], rate: usize, key: usize, k: usize) -> u32
+    requires { ⌜ (rate + key ≤ 16) × (k < key + key) ⌝ }
+    ensures { λ r. ⌜ r ≡ whiteningAt words rate key k ⌝ }
+{
+    if k < key {
+        words[rate + k]
+    } else {
+        words[rate + (k - key)]
+    }
+}
+
+// A block of the rate's bytes is taken up by the state.
+pub(crate) fn mix(
+    variant: SparkleVariant,
+    words: [u32; 16],
+    block: [u8; 64],
+    steps: u32,
+) -> [u32; 16]
+    ensures { λ r. ⌜ r ≡ putState (paramsOf variant) words (mix (paramsOf variant) steps (stateIn (paramsOf variant) words) (take (paramsOf variant .rate) block)) ⌝ }
+{
+    let rate = variant.nonce_bytes() / 4;
+    let key = variant.key_bytes() / 4;
+    let half = rate / 2;
+    let mut v = words;
+    let mut k = 0;
+    while k < rate {
+        v[k] = feedback(words, half, k) ^ word_at(block, k) ^ whitening(words, rate, key, k);
+        k += 1;
+    }
+    permute(variant, v, steps)
+}
+
+// What n bytes of a block become, sealed or opened.
+pub(crate) fn crypt(
+    variant: SparkleVariant,
+    words: [u32; 16],
+    block: [u8; 64],
+    n: usize,
+) -> [u8; 64]
+    requires { ⌜ n ≤ paramsOf variant .rate ⌝ }
+    ensures { λ r. ⌜ r ≡ inArray 64 (crypt (paramsOf variant) (stateIn (paramsOf variant) words) (take n block)) ⌝ }
+{
+    let mut r = [0u8; 64];
+    let mut i = 0;
+    while i < n {
+        r[i] = state_byte(words, i) ^ block[i];
+        i += 1;
+    }
+    r
+}
+
+// ---- blocks before the last
+
+// The state after `count` header blocks.
+pub(crate) fn absorb_blocks(
+    variant: SparkleVariant,
+    words: [u32; 16],
+    buffer: [u8; 64],
+    held: usize,
+    input: &[u8],
+    count: usize,
+) -> [u32; 16]
+    requires { ⌜ (held ≤ 64) × (count * paramsOf variant .rate ≤ held + length (now input)) ⌝ }
+    ensures { λ r. ⌜ r ≡ putState (paramsOf variant) words (after (paramsOf variant .rate) (absorbBlock (paramsOf variant)) count (stateIn (paramsOf variant) words) (take held buffer ++ now (input .entry))) ⌝ }
+{
+    let rate = variant.nonce_bytes();
+    let slim = variant.slim_steps();
+    let mut v = words;
+    let mut pos = 0;
+    let mut left = count;
+    while 0 < left {
+        let next = mix(variant, v, gather(buffer, held, input, pos, rate), slim);
+        v = next;
+        pos += rate;
+        left -= 1;
+    }
+    v
+}
+
+// What the state takes up of a message block: sealing, the block itself; opening, what it becomes.
+fn taken_up(
+    variant: SparkleVariant,
+    opening: bool,
+    words: [u32; 16],
+    block: [u8; 64],
+    crypted: [u8; 64],
+) -> [u8; 64]
+    requires { ⌜ crypted ≡ inArray 64 (crypt (paramsOf variant) (stateIn (paramsOf variant) words) (take (paramsOf variant .rate) block)) ⌝ }
+    ensures { λ r. ⌜ take (paramsOf variant .rate) r ≡ plainBy (paramsOf variant) opening (stateIn (paramsOf variant) words) (take (paramsOf variant .rate) block) ⌝ }
+{
+    if opening { crypted } else { block }
+}
+
+// The state after `count` message blocks; what they become is written to the output from its start.
+pub(crate) fn crypt_blocks(
+    variant: SparkleVariant,
+    opening: bool,
+    words: [u32; 16],
+    buffer: [u8; 64],
+    held: usize,
+    input: &[u8],
+    output: &mut [u8],
+    count: usize,
+) -> [u32; 16]
+    requires { ⌜ (held ≤ 64) × (count * paramsOf variant .rate ≤ held + length (now input)) × (count * paramsOf variant .rate ≤ length (now output)) ⌝ }
+    ensures { λ r. ⌜ r ≡ putState (paramsOf variant) words (after (paramsOf variant .rate) (messageBlock (paramsOf variant) (plainBy (paramsOf variant) opening)) count (stateIn (paramsOf variant) words) (take held buffer ++ now (input .entry))) ⌝ }
+    ensures { λ _. ⌜ now (output .exit) ≡ given (paramsOf variant .rate) (messageBlock (paramsOf variant) (plainBy (paramsOf variant) opening)) (crypt (paramsOf variant)) count (stateIn (paramsOf variant) words) (take held buffer ++ now (input .entry)) ++ drop (count * paramsOf variant .rate) (now (output .entry)) ⌝ }
+{
+    let rate = variant.nonce_bytes();
+    let slim = variant.slim_steps();
+    let mut v = words;
+    let mut pos = 0;
+    let mut left = count;
+    while 0 < left {
+        let block = gather(buffer, held, input, pos, rate);
+        let crypted = crypt(variant, v, block, rate);
+        put(output, pos, crypted, rate);
+        let next = mix(
+            variant,
+            v,
+            taken_up(variant, opening, v, block, crypted),
+            slim,
+        );
+        v = next;
+        pos += rate;
+        left -= 1;
+    }
+    v
+}
+
+// ---- the last block, the start and the tag
+
+// A short block gets byte 80 (hexadecimal) and zeros.
+fn pad(variant: SparkleVariant, buffer: [u8; 64], n: usize) -> [u8; 64]
+    requires { ⌜ n ≤ paramsOf variant .rate ⌝ }
+    ensures { λ r. ⌜ r ≡ inArray 64 (padded (paramsOf variant) (take n buffer)) ⌝ }
+{
+    let mut r = first_bytes(buffer, n);
+    if n < variant.nonce_bytes() {
+        r[n] = 0x80;
+    }
+    r
+}
+
+// The domain constant: (v xor 2^(key bytes / 8)) × 2^24.
+pub(crate) fn domain_constant(variant: SparkleVariant, v: u32) -> u32
+    requires { ⌜ v < 4 ⌝ }
+    ensures { λ r. ⌜ r ≡ domain (paramsOf variant) v ⌝ }
+{
+    let branches = match variant {
+        SparkleVariant::Schwaemm128_128 => 4,
+        SparkleVariant::Schwaemm256_128 => 4,
+        SparkleVariant::Schwaemm192_192 => 8,
+        SparkleVariant::Schwaemm256_256 => 16,
+    };
+    (v ^ branches) * 0x100_0000
+}
+
+// It is xored into the last word of the state.
+fn with_domain(variant: SparkleVariant, words: [u32; 16], v: u32) -> [u32; 16]
+    requires { ⌜ v < 4 ⌝ }
+    ensures { λ r. ⌜ r ≡ putState (paramsOf variant) words (withDomain (paramsOf variant) v (stateIn (paramsOf variant) words)) ⌝ }
+{
+    let last = (variant.nonce_bytes() + variant.key_bytes()) / 4 - 1;
+    let mut r = words;
+    r[last] = words[last] ^ domain_constant(variant, v);
+    r
+}
+
+// The last block, n bytes of the buffer, is taken up; `short` is 0 for the header, 2 for the message.
+pub(crate) fn mix_last(
+    variant: SparkleVariant,
+    words: [u32; 16],
+    buffer: [u8; 64],
+    n: usize,
+    short: u32,
+) -> [u32; 16]
+    requires { ⌜ (n ≤ paramsOf variant .rate) × (short < 3) ⌝ }
+    ensures { λ r. ⌜ r ≡ putState (paramsOf variant) words (mixLast (paramsOf variant) short (stateIn (paramsOf variant) words) (take n buffer)) ⌝ }
+{
+    let block = pad(variant, buffer, n);
+    let steps = variant.big_steps();
+    if n < variant.nonce_bytes() {
+        return mix(variant, with_domain(variant, words, short), block, steps);
+    }
+    mix(
+        variant,
+        with_domain(variant, words, short + 1),
+        block,
+        steps,
+    )
+}
+
+// The start: nonce words, then key words, then big steps.
+pub(crate) fn initialise(variant: SparkleVariant, key: &[u8], nonce: &[u8]) -> [u32; 16]
+    requires { ⌜ (length (now key) ≡ paramsOf variant .key) × (length (now nonce) ≡ paramsOf variant .rate) ⌝ }
+    ensures { λ r. ⌜ r ≡ inArray 16 (initialise (paramsOf variant) (now (key .entry)) (now (nonce .entry))) ⌝ }
+{
+    let rate = variant.nonce_bytes();
+    let first = gather([0u8; 64], 0, nonce, 0, rate);
+    let bytes = gather(first, rate, key, 0, rate + variant.key_bytes());
+    permute(variant, words_of(bytes), variant.big_steps())
+}
+
+// The tag: the key xored into the capacity.
+pub(crate) fn make_tag(variant: SparkleVariant, words: [u32; 16], key: [u8; 32]) -> [u8; 32]
+    ensures { λ r. ⌜ r ≡ inArray 32 (tagOf (paramsOf variant) (take (paramsOf variant .key) key) (stateIn (paramsOf variant) words)) ⌝ }
+{
+    let rate = variant.nonce_bytes();
+    let n = variant.key_bytes();
+    let mut r = [0u8; 32];
+    let mut i = 0;
+    while i < n {
+        r[i] = state_byte(words, rate + i) ^ key[i];
+        i += 1;
+    }
+    r
+}
