@@ -7,7 +7,7 @@ use Prim.Native.Nat.{ℕ, _+_, _-_, _*_, _^_, _≤_}
 use native.Mathlib.Omega.{arith}
 use lib.Dec.{ltb}
 use borrow.Author.Tests.{ltb-false}
-use lib.ListN.{length, take, drop, length-append, length-drop, length-take}
+use lib.ListN.{length, drop, length-append, length-drop, length-take}
 use lib.Seq.{take-at, drop-at}
 use Rattle.schwaemm.specs.Blocks.{ready, after, given, held}
 use Rattle.schwaemm.specs.Schwaemm.{Params, crypt, prepared, sealing, opening as openingBlock, messageBlock, beforeLast, lastBlock, crypted, encrypt, decrypt, tag, seal, body as bodyOf, leading}
@@ -29,10 +29,13 @@ use Rattle.tc_sparkle_aead.specs.Checks.{opens, opening, keep, heldIn, then, wi
 use Rattle.tc_sparkle_aead.specs.Calls.{stateIn, stream, blocks, beginData, plainOf, dataOut, written, sealLast, sealTag, openBlock, openLast, plainBy, streamOut}
 use Rattle.tc_sparkle_aead.proofs.VariantLaws.{sizes, small}
 use Rattle.claims.specs.Reader.{Reader, heldOf, dataPhase}
+use Rattle.claims.specs.Messages.{released, Writes}
 use Rattle.claims.proofs.Points.{held-nil, blockPoint}
 use Rattle.claims.proofs.Packets.{packet-given}
-use Rattle.claims.proofs.Kept.{Fits, Standing, engineOf, dataPoint, pointIn, then-good, holds-data, state-data, data-given, phase-agrees}
-use Rattle.claims.proofs.Follows.{Takes, kept, inData, begun-data, sealing-state, sealing-block, sealing-tag, opening-block, opening-last}
+use Rattle.claims.proofs.Kept.{Fits, Standing, engineOf, dataPoint, pointIn, then-good, holds-data, state-data}
+use Rattle.claims.proofs.Kept.{data-given, phase-agrees}
+use Rattle.claims.proofs.Follows.{Takes, kept, inData, begun-data, sealing-state, sealing-block, sealing-tag}
+use Rattle.claims.proofs.Follows.{opening-block, opening-last}
 
 -- ---- What passed checks say
 
@@ -115,20 +118,6 @@ end-takes p phase held a n e =
     phase-takes phase (s1 .0) (s1 .1)
 
 -- ---- Outputs
-
--- The bytes that the specification gives, before the end, for the data so far.
-unfoldable pub released : Params → Reader → List ℕ
-released p r =
-    given (p .rate) (messageBlock p (plainOf p (r .phase))) (crypt p)
-    (ready (p .rate) (keep p (r .phase)) (length (r .body)))
-    (prepared p (r .key) (r .nonce) (r .header)) (r .body)
-
--- A call that takes the bytes so far, `before`, to `after`, by the n bytes that it writes into the buffer that was lent as
--- `out`; the rest of the buffer is as lent.
-pub record Writes (before after out buffer : List ℕ) (n : ℕ) : Type 0 where
-  pub bytes : after ≡ before ++ take n buffer
-  pub rest : drop n buffer ≡ drop n out
-  pub length-same : length buffer ≡ length out
 
 pub writes : (before after out w : List ℕ) (n : ℕ) → after ≡ before ++ w → length w ≡ n → n ≤ length out
     → Writes before after out (written w out) n

@@ -5,7 +5,7 @@ use mathlib.Core.Bool.{Bool, true, false, cond}
 use mathlib.Core.List.{List, [], _∷_}
 use Prim.Native.Nat.{ℕ}
 use lib.ListN.{length}
-use Rattle.schwaemm.specs.Schwaemm.{Params, verified}
+use Rattle.schwaemm.specs.Schwaemm.{verified}
 use Rattle.tc_sparkle_aead.specs.declared.variant.SparkleVariant.{SparkleVariant}
 use Rattle.tc_sparkle_aead.specs.declared.phase.Phase.{Phase}
 use Rattle.tc_sparkle_aead.specs.declared.phase.Phase.the-variants.{Uninitialized, Init, Aad, Data, Final}
@@ -13,45 +13,16 @@ use Rattle.tc_sparkle_aead.specs.declared.aead_error.AeadResult.{AeadResult}
 use Rattle.tc_sparkle_aead.specs.declared.aead_error.AeadResult.the-variants.{Ok, Err}
 use Rattle.tc_sparkle_aead.specs.declared.engine.SparkleEngine.{SparkleEngine}
 use Rattle.tc_sparkle_aead.specs.Variant.{paramsOf}
-use Rattle.tc_sparkle_aead.specs.Refusals.{refusal}
-use Rattle.tc_sparkle_aead.specs.Checks.{opening, aadCheck, headerCheck, dataCheck, endCheck, startCheck, updateLen, totalLen}
+use Rattle.tc_sparkle_aead.specs.Checks.{opening, aadCheck, headerCheck, endCheck}
 use Rattle.tc_sparkle_aead.specs.Calls.{aadBy}
-use Rattle.claims.specs.Call.{Call, step, run, Outcome, outcome, startOutcome}
-use Rattle.claims.specs.Reader.{Reader, heldOf, repeated, reader}
+use Rattle.claims.specs.Call.{Call, step, run, Outcome, outcome}
+use Rattle.claims.specs.Reader.{Reader, heldOf, reader}
+use Rattle.claims.specs.Messages.{openOutcome, Asked, endOutcome, answerOf}
 use Rattle.claims.proofs.Kept.{Follows, engineOf}
 use Rattle.claims.proofs.Follows.{follows-run, aad-some}
 use Rattle.claims.proofs.Written.{message-outcome, seal-end, open-end, end-refused}
 use Rattle.claims.proofs.Whole.{header-outcome, start-outcome}
 use Rattle.claims.proofs.Messages.{update-outcome, total-outcome}
-
--- An end: its refusal, or on an opening 6 where the packet is not verified, or its count.
-abbrev pub endOutcome : AeadResult → (opening verified : Bool) → Outcome
-endOutcome (Err x) o g = Outcome.no (refusal x)
-endOutcome (Ok n) o g = cond o (cond g (Outcome.ok n) (Outcome.no (6 ∷ []))) (Outcome.ok n)
-
--- What is asked: every call but mac.
-abbrev pub Asked : Call → Type 0
-Asked (Call.start d key nonce size h) = Unit {0}
-Asked (Call.header input) = Unit {0}
-Asked (Call.message input out) = Unit {0}
-Asked (Call.end out) = Unit {0}
-Asked Call.reset = Unit {0}
-Asked Call.tag = ⊥
-Asked (Call.update n) = Unit {0}
-Asked (Call.output n) = Unit {0}
-
-unfoldable pub answerOf : Params → Reader → Call → Outcome
-answerOf p r (Call.start d key nonce size h) =
-    startOutcome (startCheck p d (length key) (length nonce) size (repeated r key nonce))
-answerOf p r (Call.header input) = outcome (aadCheck (r .phase) (length input))
-answerOf p r (Call.message input out) = outcome (dataCheck p (r .phase) (heldOf p r) (length input) (length out))
-answerOf p r (Call.end out) =
-    endOutcome (endCheck p (r .phase) (heldOf p r) (length out)) (opening (r .phase))
-    (verified p (r .key) (r .nonce) (r .header) (r .body))
-answerOf p r Call.reset = Outcome.ok 0
-answerOf p r Call.tag = Outcome.ok 0
-answerOf p r (Call.update n) = outcome (updateLen p (r .phase) (heldOf p r) n)
-answerOf p r (Call.output n) = outcome (totalLen p (r .phase) (heldOf p r) n)
 
 -- a header call answers its check
 header-phase : (phase : Phase) (e : SparkleEngine) (x : ℕ) (input : List ℕ)
@@ -69,11 +40,17 @@ header-same phase e (x ∷ input) =
     ap (λ (k : AeadResult). aadBy k e (x ∷ input) .answer) (aad-some phase (length input))
     ∙ header-phase phase e x input ∙ sym (aad-some phase (length input))
 
+open-is : (g : Bool) (n : ℕ) → cond g (Outcome.ok n) (Outcome.no (6 ∷ [])) ≡ openOutcome g n
+open-is true n = refl
+open-is false n = refl
+
 end-answer : (v : SparkleVariant) (e : SparkleEngine) (r : Reader) → Follows v e r → (out : List ℕ) (k : AeadResult)
     → endCheck (paramsOf v) (r .phase) (heldOf (paramsOf v) r) (length out) ≡ k → (o : Bool) → opening (r .phase) ≡ o
     → step e (Call.end out) .outcome ≡ endOutcome k o (verified (paramsOf v) (r .key) (r .nonce) (r .header) (r .body))
 end-answer v e r w out (Err x) q o is = end-refused v e r w out x q
-end-answer v e r w out (Ok n) q true is = open-end v e r w out n q is .outcome-is
+end-answer v e r w out (Ok n) q true is =
+    open-end v e r w out n q is .outcome-is
+    ∙ open-is (verified (paramsOf v) (r .key) (r .nonce) (r .header) (r .body)) n
 end-answer v e r w out (Ok n) q false is = seal-end v e r w out n q is .outcome-is
 
 pub answer-step : (v : SparkleVariant) (e : SparkleEngine) (r : Reader) → Follows v e r → (c : Call) → Asked c

@@ -2,17 +2,18 @@
 use mathlib.Core.Path.{_≡_, refl, ap, subst, _∙_}
 use mathlib.Core.Logic.{_↔_}
 use mathlib.Core.Bool.{Bool, true, false, cond}
-use mathlib.Core.List.{List, [], _∷_, _++_}
-use Prim.Native.Nat.{ℕ, _+_, _-_, _*_, _/_, _%_, _^_, _≤_, _<_, min}
+use mathlib.Core.List.{List, [], _∷_}
+use Prim.Native.Nat.{ℕ, _+_, _-_, _*_, _^_, _≤_, _<_, min}
 use native.Mathlib.Omega.{arith}
-use lib.ListN.{length, take, drop, length-take, length-replicate}
+use lib.ListN.{length, take, length-take, length-replicate}
 use Rattle.schwaemm.specs.Bytes.{same}
 use Rattle.tc_sparkle_aead.specs.declared.phase.Direction.{Direction}
 use Rattle.tc_sparkle_aead.specs.declared.phase.Direction.the-variants.{Encrypt, Decrypt}
 use Rattle.tc_sparkle_aead.specs.declared.phase.Phase.{Phase}
 use Rattle.tc_sparkle_aead.specs.declared.phase.Phase.the-variants.{Uninitialized, Init, Aad, Data, Final}
 use Rattle.tc_sparkle_aead.specs.declared.aead_error.AeadError.{AeadError}
-use Rattle.tc_sparkle_aead.specs.declared.aead_error.AeadError.the-variants.{NotInitialized, AlreadyFinalized, OutputTooShort, CiphertextTooShort, InputTooLong}
+use Rattle.tc_sparkle_aead.specs.declared.aead_error.AeadError.the-variants.{NotInitialized, AlreadyFinalized, OutputTooShort}
+use Rattle.tc_sparkle_aead.specs.declared.aead_error.AeadError.the-variants.{CiphertextTooShort, InputTooLong}
 use Rattle.tc_sparkle_aead.specs.declared.aead_error.AeadResult.{AeadResult}
 use Rattle.tc_sparkle_aead.specs.declared.aead_error.AeadResult.the-variants.{Ok, Err}
 use Rattle.tc_sparkle_aead.specs.declared.aead_init_error.AeadInitResult.{AeadInitResult}
@@ -20,113 +21,35 @@ use Rattle.tc_sparkle_aead.specs.declared.aead_init_error.AeadInitResult.the-va
 use Rattle.tc_sparkle_aead.specs.declared.engine.SparkleEngine.{SparkleEngine}
 use Rattle.tc_sparkle_aead.specs.declared.engine.Pair.{Pair}
 use Rattle.tc_sparkle_aead.specs.Variant.{paramsOf}
-use Rattle.tc_sparkle_aead.specs.Checks.{opens, opening, heldIn, phaseCheck, headerCheck, updateLen, totalLen, aadCheck, dataCheck, endCheck, startCheck}
-use Rattle.tc_sparkle_aead.specs.Engine.{zeros, noMessage, noMac, noSteps, repeats, updateOutputLen, outputLen}
-use Rattle.tc_sparkle_aead.specs.Calls.{refused, initBy, aadBy, processAadBytes, dataBy, dataOutBy, dataAnswer, finalAnswer, heldBytes, openBlock, openEndOutBy, finalPoint, ended, addSteps, lastSteps, written, processBytes, processBytesOut, beginData, receivedTag, openTag, openEnd, openEndBy, sealEnd, finalBy, finalOutBy, doFinal, doFinalOut, afterHeader, withoutHeader}
-use Rattle.tc_sparkle_aead.proofs.CheckLaws.{updateLen-over, updateLen-fits, totalLen-over, totalLen-opening, totalLen-sealing, totalLen-sealing-over, startCheck-key, startCheck-nonce, startCheck-size, startCheck-opening, startCheck-sealing}
+use Rattle.tc_sparkle_aead.specs.Checks.{opens, opening, heldIn, phaseCheck, headerCheck, updateLen, totalLen, aadCheck}
+use Rattle.tc_sparkle_aead.specs.Checks.{dataCheck, endCheck, startCheck}
+use Rattle.tc_sparkle_aead.specs.Engine.{zeros, repeats, updateOutputLen, outputLen}
+use Rattle.tc_sparkle_aead.specs.Calls.{refused, initBy, aadBy, processAadBytes, dataBy, dataOutBy, dataAnswer, finalAnswer}
+use Rattle.tc_sparkle_aead.specs.Calls.{heldBytes, openBlock, openEndOutBy, ended, addSteps, lastSteps, written, processBytes}
+use Rattle.tc_sparkle_aead.specs.Calls.{processBytesOut, beginData, receivedTag, openTag, openEnd, openEndBy, sealEnd}
+use Rattle.tc_sparkle_aead.specs.Calls.{finalBy, finalOutBy, doFinal, doFinalOut, afterHeader, withoutHeader}
+use Rattle.tc_sparkle_aead.proofs.CheckLaws.{updateLen-over, updateLen-fits, totalLen-over, totalLen-opening}
+use Rattle.tc_sparkle_aead.proofs.CheckLaws.{totalLen-sealing, totalLen-sealing-over, startCheck-key, startCheck-nonce}
+use Rattle.tc_sparkle_aead.proofs.CheckLaws.{startCheck-size, startCheck-opening, startCheck-sealing}
 use Rattle.tc_sparkle_aead.proofs.VariantLaws.{sizes, Small, small}
 use Rattle.schwaemm.specs.Blocks.{ready}
 use Rattle.schwaemm.specs.Schwaemm.{Params}
 use Rattle.schwaemm.proofs.RoundTrip.{same-of-equal, equal-of-same}
-use lib.Dec.{ltb, eqb·suc-zero}
+use lib.Dec.{eqb·suc-zero}
 use borrow.Author.Tests.{lt-ltb, le-ltb, ne-eqb}
 use native.Mathlib.Decide.{ℕ-discrete, decLt}
 use native.Mathlib.Nat.{add-zero}
 use Rattle.tc_sparkle_aead.specs.Calls.{init as initCall}
 use Rattle.claims.specs.Call.{Call, Outcome, outcome, startOutcome, step}
 use Rattle.claims.specs.Call.Outcome.{ok, no}
-
--- ---- Where a number comes back
-
--- The phases that take data and an end, by their direction.
-pub data Taking (d : Direction) : Phase → Type 0 where
-  in-init : Taking d (Init d)
-  in-aad : Taking d (Aad d)
-  in-data : Taking d (Data d)
-
--- The phases by their direction; Uninitialized counts as sealing.
-pub data Facing : Direction → Phase → Type 0 where
-  no-message : Facing Encrypt Uninitialized
-  of-init : {d : Direction} → Facing d (Init d)
-  of-aad : {d : Direction} → Facing d (Aad d)
-  of-data : {d : Direction} → Facing d (Data d)
-  of-final : {d : Direction} → Facing d (Final d)
-
--- The held bytes h: 0 outside Data; at most a block, on an opening a tag and a block.
-abbrev pub holds : Params → Phase → ℕ → ℕ
-holds p Uninitialized n = 0
-holds p (Init d) n = 0
-holds p (Aad d) n = 0
-holds p (Data Encrypt) n = min n (p .rate)
-holds p (Data Decrypt) n = min n (p .key + p .rate)
-holds p (Final d) n = 0
-
-abbrev pub hOf : SparkleEngine → ℕ
-hOf e = holds (paramsOf (e .variant)) (e .current .phase) (e .current .held)
-
--- The variant's bytes: key and tag; nonce and block.
-abbrev pub keyOf : SparkleEngine → ℕ
-keyOf e = paramsOf (e .variant) .key
-
-abbrev pub rateOf : SparkleEngine → ℕ
-rateOf e = paramsOf (e .variant) .rate
-
--- What a data call writes when h + n is the sum: a byte stays, on an opening a tag and a byte; the rest rounded down to a
--- multiple of the rate.
-abbrev pub dataWrites : Direction → Params → ℕ → ℕ
-dataWrites Encrypt p sum = (sum - 1) / p .rate * p .rate
-dataWrites Decrypt p sum = (sum - (p .key + 1)) / p .rate * p .rate
-
--- What h bytes are with the tag; on an opening without it.
-abbrev pub endWrites : Direction → Params → ℕ → ℕ
-endWrites Encrypt p h = h + p .key
-endWrites Decrypt p h = h - p .key
-
--- The sum that an output_len must not let pass 2^64 - 1.
-abbrev pub outputSum : Direction → Params → ℕ → ℕ
-outputSum Encrypt p sum = sum + p .key
-outputSum Decrypt p sum = sum
-
--- When a call is refused, with which number and values: the lines of document 01's two tables, each with the checks
--- before it passed.
-pub data Refused (e : SparkleEngine) : Call → List ℕ → Type 0 where
-  key-length : {d : Direction} {key nonce header : List ℕ} {size : ℕ} → (length key ≡ keyOf e → ⊥)
-      → Refused e (Call.start d key nonce size header) (1 ∷ (length key ∷ []))
-  nonce-length : {d : Direction} {key nonce header : List ℕ} {size : ℕ} → length key ≡ keyOf e
-      → (length nonce ≡ rateOf e → ⊥) → Refused e (Call.start d key nonce size header) (2 ∷ (length nonce ∷ []))
-  mac-size : {d : Direction} {key nonce header : List ℕ} {size : ℕ} → length key ≡ keyOf e → length nonce ≡ rateOf e
-      → (size ≡ keyOf e → ⊥) → Refused e (Call.start d key nonce size header) (3 ∷ (size ∷ []))
-  data-room : {d : Direction} {input out : List ℕ} → Taking d (e .current .phase) → hOf e + length input < 2 ^ 64
-      → length out < dataWrites d (paramsOf (e .variant)) (hOf e + length input)
-      → Refused e (Call.message input out)
-      (4 ∷ (dataWrites d (paramsOf (e .variant)) (hOf e + length input) ∷ (length out ∷ [])))
-  end-room : {d : Direction} {out : List ℕ} → Taking d (e .current .phase)
-      → length out < endWrites d (paramsOf (e .variant)) (hOf e)
-      → Refused e (Call.end out) (4 ∷ (endWrites d (paramsOf (e .variant)) (hOf e) ∷ (length out ∷ [])))
-  no-tag : {out : List ℕ} → Taking Decrypt (e .current .phase) → hOf e < keyOf e
-      → Refused e (Call.end out) (5 ∷ (keyOf e ∷ (hOf e ∷ [])))
-  tag-differs : {out : List ℕ} → e .current .phase ≡ Data Decrypt → keyOf e ≤ hOf e → hOf e - keyOf e ≤ length out
-      → (receivedTag e ≡ openTag e → ⊥) → Refused e (Call.end out) (6 ∷ [])
-  data-sum : {d : Direction} {input out : List ℕ} → Taking d (e .current .phase) → 2 ^ 64 ≤ hOf e + length input
-      → Refused e (Call.message input out) (7 ∷ [])
-  update-sum : {n : ℕ} → 2 ^ 64 ≤ hOf e + n → Refused e (Call.update n) (7 ∷ [])
-  output-sum : {d : Direction} {n : ℕ} → Facing d (e .current .phase)
-      → 2 ^ 64 ≤ outputSum d (paramsOf (e .variant)) (hOf e + n) → Refused e (Call.output n) (7 ∷ [])
-  header-not-initialized : {input : List ℕ} → 0 < length input → e .current .phase ≡ Uninitialized
-      → Refused e (Call.header input) (8 ∷ [])
-  data-not-initialized : {input out : List ℕ} → e .current .phase ≡ Uninitialized
-      → Refused e (Call.message input out) (8 ∷ [])
-  end-not-initialized : {out : List ℕ} → e .current .phase ≡ Uninitialized → Refused e (Call.end out) (8 ∷ [])
-  header-after-data : {d : Direction} {input : List ℕ} → 0 < length input → e .current .phase ≡ Data d
-      → Refused e (Call.header input) (9 ∷ [])
-  header-finalized : {d : Direction} {input : List ℕ} → 0 < length input → e .current .phase ≡ Final d
-      → Refused e (Call.header input) (10 ∷ [])
-  data-finalized : {d : Direction} {input out : List ℕ} → e .current .phase ≡ Final d
-      → Refused e (Call.message input out) (10 ∷ [])
-  end-finalized : {d : Direction} {out : List ℕ} → e .current .phase ≡ Final d → Refused e (Call.end out) (10 ∷ [])
-  nonce-reuse : {key nonce header : List ℕ} {size : ℕ} → length key ≡ keyOf e → length nonce ≡ rateOf e → size ≡ keyOf e
-      → e .pair .loaded ≡ true → take (keyOf e) (e .pair .key) ≡ key → take (rateOf e) (e .pair .nonce) ≡ nonce
-      → Refused e (Call.start Encrypt key nonce size header) (11 ∷ [])
+use Rattle.claims.specs.Refused.{Returned, work-done, one-of-eleven, Taking, in-init, in-aad, in-data, Facing}
+use Rattle.claims.specs.Refused.{no-message, of-init, of-aad, of-data, of-final, holds, hOf, keyOf, rateOf, dataWrites}
+use Rattle.claims.specs.Refused.{endWrites, outputSum, Refused, key-length, nonce-length, mac-size, data-room, end-room}
+use Rattle.claims.specs.Refused.{no-tag, tag-differs, data-sum, update-sum, output-sum, header-not-initialized}
+use Rattle.claims.specs.Refused.{data-not-initialized, end-not-initialized, header-after-data, header-finalized}
+use Rattle.claims.specs.Refused.{data-finalized, end-finalized, nonce-reuse, OfStart, one, two, three, eleven}
+use Rattle.claims.specs.Refused.{Unchanging, four, five, seven, eight, nine, ten, Numbered, of-start, of-tag}
+use Rattle.claims.specs.Refused.{unchanging, Wiped, Unchanged, Failed}
 
 -- ---- The checks, by the phases that take calls
 
@@ -535,38 +458,6 @@ refusals e c r = (comes-back-refused e c r, refused-comes-back e c r)
 
 -- ---- What a number leaves
 
--- The output buffer that a call lends, if it lends one.
-abbrev pub lent : Call → List ℕ
-lent (Call.start d key nonce size header) = []
-lent (Call.header input) = []
-lent (Call.message input out) = out
-lent (Call.end out) = out
-lent Call.reset = []
-lent Call.tag = []
-lent (Call.update n) = []
-lent (Call.output n) = []
-
--- The numbers of a refused start, and the numbers after which nothing has changed; 6 is the eleventh.
-pub data OfStart : ℕ → Type 0 where
-  one : OfStart 1
-  two : OfStart 2
-  three : OfStart 3
-  eleven : OfStart 11
-
-pub data Unchanging : ℕ → Type 0 where
-  four : Unchanging 4
-  five : Unchanging 5
-  seven : Unchanging 7
-  eight : Unchanging 8
-  nine : Unchanging 9
-  ten : Unchanging 10
-
--- Which of the eleven a refusal is.
-pub data Numbered : List ℕ → Type 0 where
-  of-start : {n : ℕ} {values : List ℕ} → OfStart n → Numbered (n ∷ values)
-  of-tag : {values : List ℕ} → Numbered (6 ∷ values)
-  unchanging : {n : ℕ} {values : List ℕ} → Unchanging n → Numbered (n ∷ values)
-
 numbered : (e : SparkleEngine) (c : Call) (r : List ℕ) → Refused e c r → Numbered r
 numbered e c r (key-length w) = of-start one
 numbered e c r (nonce-length k w) = of-start two
@@ -591,18 +482,13 @@ numbered e c r (nonce-reuse k n s loaded key nonce) = of-start eleven
 pub eleven-numbers : (e : SparkleEngine) (c : Call) (r : List ℕ) → step e c .outcome ≡ no r → Numbered r
 eleven-numbers e c r q = numbered e c r (comes-back-refused e c r q)
 
--- Everything wiped but the variant and the last loaded pair; the buffer, if one is lent, as it was.
-pub record Wiped (e : SparkleEngine) (c : Call) : Type 0 where
-  pub engine : step e c .engine
-      ≡ record {
-        variant = e .variant;
-        current = noMessage;
-        initial = noMessage;
-        pair = e .pair;
-        mac = noMac;
-        steps = noSteps;
-      }
-  pub buffer : step e c .buffer ≡ lent c
+-- Every call comes back with a count or with one of them.
+pub returned : (e : SparkleEngine) (c : Call) → Returned (step e c .outcome)
+returned e c = by (step e c .outcome) refl
+  where
+    by : (o : Outcome) → step e c .outcome ≡ o → Returned o
+    by (ok n) q = work-done n
+    by (no r) q = one-of-eleven (eleven-numbers e c r q)
 
 start-leaves : (k : AeadInitResult) (e : SparkleEngine) (d : Direction) (key nonce header r : List ℕ)
     → startOutcome (initBy k e d key nonce header .answer) ≡ no r → initBy k e d key nonce header .engine ≡ refused e
@@ -610,7 +496,8 @@ start-leaves StartOk e d key nonce header r q = absurd (let z : _≡_ {A = ℕ} 
 start-leaves (StartErr x) e d key nonce header r q = refl
 
 module _ (e : SparkleEngine) where
-  start-wipes : (d : Direction) (key nonce header r : List ℕ) (size : ℕ)
+  -- A refused start leaves no message, and of what was kept only the last loaded pair.
+  pub start-wipes : (d : Direction) (key nonce header r : List ℕ) (size : ℕ)
       → step e (Call.start d key nonce size header) .outcome ≡ no r → Wiped e (Call.start d key nonce size header)
   unfolding step initCall refused
   start-wipes d key nonce header r size q =
@@ -631,15 +518,10 @@ module _ (e : SparkleEngine) where
   start-number c n values eleven (nonce-reuse {key} {nonce} {header} {size} k m s l x y) q =
       start-wipes Encrypt key nonce header _ size q
 
-  -- A refused start leaves no message, and of what was kept only the last loaded pair.
+  -- The numbers 1, 2, 3 and 11 are those of a refused start.
   pub start-number-leaves : (c : Call) (n : ℕ) (values : List ℕ) → OfStart n → step e c .outcome ≡ no (n ∷ values)
       → Wiped e c
   start-number-leaves c n values o q = start-number c n values o (comes-back-refused e c (n ∷ values) q) q
-
--- Neither engine nor buffer has changed.
-pub record Unchanged (e : SparkleEngine) (c : Call) : Type 0 where
-  pub engine : step e c .engine ≡ e
-  pub buffer : step e c .buffer ≡ lent c
 
 header-leaves : (k : AeadResult) (e : SparkleEngine) (input r : List ℕ) → outcome (aadBy k e input .answer) ≡ no r
     → aadBy k e input .engine ≡ e
@@ -694,26 +576,6 @@ module _ (e : SparkleEngine) where
   unchanging-number-leaves c n values u q = unchanged c n values u (comes-back-refused e c (n ∷ values) q) q
 
 -- ---- A failed tag
-
--- What a failed tag leaves at an end into `out`: the message is over, no tag can be read, and zeros stand where the end
--- would have written.
-pub record Failed (e : SparkleEngine) (out : List ℕ) : Type 0 where
-  pub phase : e .current .phase ≡ Data Decrypt
-  pub whole : keyOf e ≤ hOf e
-  pub engine : step e (Call.end out) .engine
-      ≡ record {
-        variant = e .variant;
-        current = finalPoint Decrypt;
-        initial = e .initial;
-        pair = e .pair;
-        mac = noMac;
-        steps =
-            record {
-              current = (e .steps .current + cond (ltb 0 (hOf e - keyOf e)) (paramsOf (e .variant) .big) 0) % 2 ^ 64;
-              initial = e .steps .initial;
-            };
-      }
-  pub buffer : step e (Call.end out) .buffer ≡ zeros (hOf e - keyOf e) ++ drop (hOf e - keyOf e) out
 
 opening-end-out : (e : SparkleEngine) (n : ℕ) (out : List ℕ) (b : Bool) → e .current .phase ≡ Data Decrypt
     → same (receivedTag e) (openTag e) ≡ b → finalOutBy (Ok n) e out ≡ written (openEndOutBy b e) out

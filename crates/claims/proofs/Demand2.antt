@@ -5,11 +5,11 @@ use mathlib.Core.Path.{_≡_, refl, sym, ap, subst, _∙_}
 use mathlib.Core.Logic.{_↔_}
 use mathlib.Core.Bool.{Bool, true, false, cond}
 use mathlib.Core.List.{List, [], _∷_}
-use Prim.Native.Nat.{ℕ, _+_, _*_, _%_, _^_, _≤_, _<_}
+use Prim.Native.Nat.{ℕ, _+_, _%_, _^_, _≤_, _<_}
 use native.Mathlib.Omega.{arith}
 use lib.ListN.{length}
-use Rattle.schwaemm.specs.Blocks.{ready, held}
-use Rattle.schwaemm.specs.Schwaemm.{Params, decrypt, seal, tag, body as bodyOf, verified, leading, stepsOf, steps}
+use Rattle.schwaemm.specs.Blocks.{held}
+use Rattle.schwaemm.specs.Schwaemm.{Params, tag, verified, steps}
 use Rattle.schwaemm.proofs.Cut.{length-held, rest-below}
 use Rattle.tc_sparkle_aead.specs.declared.variant.SparkleVariant.{SparkleVariant}
 use Rattle.tc_sparkle_aead.specs.declared.phase.Direction.{Direction}
@@ -29,14 +29,15 @@ use Rattle.tc_sparkle_aead.specs.Calls.{reset as resetEngine}
 use Rattle.tc_sparkle_aead.specs.Calls.{readable, macOf, stepsNow, finalPoint, refused, initBy, init, aadBy, processAadBytes, dataBy, processBytes, finalBy, doFinal}
 use Rattle.tc_sparkle_aead.proofs.VariantLaws.{sizes, small, keep-bound}
 use Rattle.claims.specs.Call.{Call, step, runFrom, run, Outcome, outcome, startOutcome}
-use Rattle.claims.specs.Reader.{Reader, heldOf, read, reader}
+use Rattle.claims.specs.Reader.{heldOf, read, reader}
+use Rattle.claims.specs.Messages.{released, Writes, Each, endOutcome, answerOf, messageOf, Ended, SealEnd, OpenEnd}
+use Rattle.claims.specs.Messages.{finishedBytes, OpenEndExact, Before, stepsBefore, stepsAfterInit, Keeps}
 use Rattle.claims.proofs.Points.{blockPoint}
-use Rattle.claims.proofs.Kept.{Standing, Sealed, openedMac, headCount, dataCount, headPoint, dataPoint, pointIn, initialCount, phase-agrees}
+use Rattle.claims.proofs.Kept.{Standing, Sealed, openedMac, headCount, dataCount, headPoint, dataPoint, pointIn}
+use Rattle.claims.proofs.Kept.{initialCount, phase-agrees}
 use Rattle.claims.proofs.Follows.{kept, follows-run, aad-some}
-use Rattle.claims.proofs.Accepted.{released, Writes}
-use Rattle.claims.proofs.Whole.{Each}
-use Rattle.claims.proofs.Answers.{endOutcome, answerOf, answers}
-use Rattle.claims.proofs.Written.{messageOf, Ended, end-ended, SealEnd, OpenEnd, message-writes-next, seal-end, open-end}
+use Rattle.claims.proofs.Answers.{answers}
+use Rattle.claims.proofs.Written.{end-ended, message-writes-next, seal-end, open-end}
 
 module _ (v : SparkleVariant) (calls : List Call) where
   -- An accepted data call writes the specification's next bytes.
@@ -73,11 +74,6 @@ exact-no false n o e = (λ _. refl, λ _. e)
 exact-no true n o e =
     (λ h. absurd (let z : _≡_ {A = ℕ} 0 1 = cc in omega arith), λ h. absurd (let z : _≡_ {A = ℕ} 0 1 = cc in omega arith))
 
--- An opening's end past its checks answers its count exactly when the packet is verified, and 6 exactly when it is not.
-pub record OpenEndExact (v : SparkleVariant) (r : Reader) (n : ℕ) (o : Outcome) : Type 0 where
-  pub accepted : (o ≡ Outcome.ok n) ↔ (verified (paramsOf v) (r .key) (r .nonce) (r .header) (r .body) ≡ true)
-  pub refused : (o ≡ Outcome.no (6 ∷ [])) ↔ (verified (paramsOf v) (r .key) (r .nonce) (r .header) (r .body) ≡ false)
-
 pub open-end-exact : (v : SparkleVariant) (calls : List Call) (out : List ℕ) (n : ℕ) → opening (reader v calls .phase) ≡ true
     → endCheck (paramsOf v) (reader v calls .phase) (heldOf (paramsOf v) (reader v calls)) (length out) ≡ Ok n
     → OpenEndExact v (reader v calls) n (step (run v calls) (Call.end out) .outcome)
@@ -106,12 +102,6 @@ end-passed (Err x) o g n e = absurd (let z : _≡_ {A = ℕ} 0 1 = cc in omega a
 end-passed (Ok m) false g n e = (let z : m ≡ n = cc in ap Ok z, refl)
 end-passed (Ok m) true true n e = (let z : m ≡ n = cc in ap Ok z, refl)
 end-passed (Ok m) true false n e = absurd (let z : _≡_ {A = ℕ} 0 1 = cc in omega arith)
-
--- The bytes of a whole message: sealing, the packet; opening, what the packet decrypts to.
-unfoldable pub finishedBytes : Params → Reader → List ℕ
-finishedBytes p r =
-    cond (opening (r .phase)) (decrypt p (r .key) (r .nonce) (r .header) (bodyOf p (r .body)))
-    (seal p (r .key) (r .nonce) (r .header) (r .body))
 
 module _ (v : SparkleVariant) (calls : List Call) (out : List ℕ) (n : ℕ)
     (accepted : step (run v calls) (Call.end out) .outcome ≡ Outcome.ok n) where
@@ -227,24 +217,6 @@ phase-is v calls =
 
 -- ---- The steps
 
--- The specification's steps of what has run: with the start, the header's blocks but its last; in the data the whole
--- header and the blocks that went.
-unfoldable pub stepsBefore : Params → Phase → (header body : List ℕ) → ℕ
-stepsBefore p Uninitialized header body = 0
-stepsBefore p (Init d) header body = p .big + leading p (length header) * p .slim
-stepsBefore p (Aad d) header body = p .big + leading p (length header) * p .slim
-stepsBefore p (Data d) header body =
-    p .big + stepsOf p (length header) + ready (p .rate) (keep p (Data d)) (length body) * p .slim
-stepsBefore p (Final d) header body = 0
-
--- Not in Final.
-abbrev pub Before : Phase → Type 0
-Before Uninitialized = Unit {0}
-Before (Init d) = Unit {0}
-Before (Aad d) = Unit {0}
-Before (Data d) = Unit {0}
-Before (Final d) = ⊥
-
 steps-in : (p : Params) (phase : Phase) (loaded : Bool) (key nonce initial header body : List ℕ) (mac : Mac) (c : ℕ)
     → Before phase
     → Standing p phase loaded key nonce initial header body mac c → c ≡ stepsBefore p phase header body % 2 ^ 64
@@ -267,14 +239,6 @@ steps-before-end v calls b =
     ∙ steps-in (paramsOf v) (r .phase) (r .loaded) (r .key) (r .nonce) (r .initial) (r .header) (r .body) (w .mac)
     (w .count) b (w .standing)
 
--- The count after init, to which every reset returns; 0 in Uninitialized.
-unfoldable pub stepsAfterInit : Params → Phase → (initial : List ℕ) → ℕ
-stepsAfterInit p Uninitialized initial = 0
-stepsAfterInit p (Init d) initial = p .big + leading p (length initial) * p .slim
-stepsAfterInit p (Aad d) initial = p .big + leading p (length initial) * p .slim
-stepsAfterInit p (Data d) initial = p .big + leading p (length initial) * p .slim
-stepsAfterInit p (Final d) initial = p .big + leading p (length initial) * p .slim
-
 initial-steps : (p : Params) (phase : Phase) (initial : List ℕ) → initialCount p phase initial
     ≡ stepsAfterInit p phase initial % 2 ^ 64
 unfolding headCount stepsAfterInit
@@ -284,6 +248,7 @@ initial-steps p (Aad d) initial = refl
 initial-steps p (Data d) initial = refl
 initial-steps p (Final d) initial = refl
 
+-- Every reset returns to the count after init.
 pub steps-reset : (v : SparkleVariant) (calls : List Call)
     → stepsNow (step (run v calls) Call.reset .engine)
     ≡ stepsAfterInit (paramsOf v) (reader v calls .phase) (reader v calls .initial) % 2 ^ 64
@@ -314,17 +279,6 @@ steps-refused-start e d key nonce size header values o =
     (repeats p (e .pair) key nonce)) e d key nonce header values o
 
 -- ---- Until the next init or reset
-
--- Neither init nor reset.
-abbrev pub Keeps : Call → Type 0
-Keeps (Call.start d key nonce size h) = ⊥
-Keeps (Call.header input) = Unit {0}
-Keeps (Call.message input out) = Unit {0}
-Keeps (Call.end out) = Unit {0}
-Keeps Call.reset = ⊥
-Keeps Call.tag = Unit {0}
-Keeps (Call.update n) = Unit {0}
-Keeps (Call.output n) = Unit {0}
 
 -- In Final a call that is neither init nor reset changes nothing, so the tag stays readable.
 pub final-keeps : (e : SparkleEngine) (d : Direction) → e .current .phase ≡ Final d → (c : Call) → Keeps c → step e c .engine

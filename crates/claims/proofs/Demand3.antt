@@ -27,7 +27,8 @@ use Rattle.tc_sparkle_aead.specs.Engine.{newEngine, repeats}
 use Rattle.tc_sparkle_aead.specs.Calls.{beginData, receivedTag, openTag}
 use Rattle.tc_sparkle_aead.proofs.CheckLaws.{startCheck-key, startCheck-nonce}
 use Rattle.claims.specs.Call.{Call, Shape, shape, Alike, step, Line, line, lines, sheet}
-use Rattle.claims.specs.Reader.{Verdict, verdictOf, Reader, newReader, repeated, heldOf, readStart, readHeader, readMessage, readEnd, endIn, read, notes, verdicts}
+use Rattle.claims.specs.Reader.{Verdict, verdictOf, Reader, newReader, repeated, heldOf, readStart, readHeader}
+use Rattle.claims.specs.Reader.{readMessage, readEnd, endIn, read, notes, verdicts}
 use Rattle.claims.specs.Reader.Verdict.{None}
 use Rattle.claims.proofs.PublicState.{publicOf, asked, startNote, endNote, next-is, judged-is, line-is}
 

@@ -25,13 +25,17 @@ use Rattle.tc_sparkle_aead.specs.Checks.{opens, opening, heldIn, aadCheck, data
 use Rattle.tc_sparkle_aead.specs.Engine.{newEngine, noMac, noSteps, resetSteps}
 use Rattle.tc_sparkle_aead.specs.Calls.{stepsNow}
 use Rattle.tc_sparkle_aead.specs.Calls.{reset as resetEngine}
-use Rattle.claims.specs.Call.{Call, step, Line, line}
-use Rattle.claims.specs.Reader.{Reader, newReader, heldOf, repeated, readStart, aadPhase, readHeader, dataPhase, readMessage, endIn, readEnd, resetIn, read}
-use Rattle.claims.proofs.Kept.{Follows, Standing, Sealed, stopped, finished, headCount, dataCount, initialCount, follows-new}
+use Rattle.claims.specs.Call.{Call, step, Line, line, sheet}
+use Rattle.claims.specs.Reader.{Reader, newReader, heldOf, repeated, readStart, aadPhase, readHeader, dataPhase}
+use Rattle.claims.specs.Reader.{readMessage, endIn, readEnd, resetIn, read}
+use Rattle.claims.specs.Machine.{engine, linesOf, sheetOf, startSteps, messageLength, endSteps, finalSteps, stepsIn}
+use Rattle.claims.specs.Machine.{counts}
+use Rattle.claims.proofs.Kept.{Follows, Standing, Sealed, stopped, finished, headCount, dataCount, initialCount}
+use Rattle.claims.proofs.Kept.{follows-new}
 use Rattle.claims.proofs.Follows.{follows-step}
 use Rattle.claims.proofs.PublicState.{Public, publicOf, asked, next-is, headerNext, headerIn, dataNext, endNext, yes}
 use Rattle.claims.proofs.Demand3.{endCheck-held}
-use Rattle.claims.proofs.Machine.{engine, linesOf, sheetOf, startSteps, messageLength, endSteps, finalSteps, stepsIn, counts}
+use Rattle.claims.proofs.Meets.{engine-lines}
 use Rattle.claims.proofs.EngineMeets.{linked}
 
 -- ---- The count in a phase
@@ -283,3 +287,10 @@ pub engine-counted : (v : SparkleVariant) (calls : List Call)
     → map (λ (l : Line). l .steps) (sheetOf engine v calls) ≡ counts (paramsOf v) newReader 0 calls
 unfolding newEngine noSteps stepsNow
 engine-counted v calls = engine-counts v calls (newEngine v) newReader (follows-new v)
+
+-- The same of the sheet of the engine's own calls.
+pub sheet-counted : (v : SparkleVariant) (calls : List Call)
+    → map (λ (l : Line). l .steps) (sheet v calls) ≡ counts (paramsOf v) newReader 0 calls
+unfolding sheet
+sheet-counted v calls =
+    sym (ap (map (λ (l : Line). l .steps)) (engine-lines (newEngine v) calls)) ∙ engine-counted v calls

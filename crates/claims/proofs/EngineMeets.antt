@@ -24,13 +24,17 @@ use Rattle.tc_sparkle_aead.proofs.VariantLaws.{sizes, small}
 use Rattle.claims.specs.Call.{Call, Alike, step, sheet, run}
 use Rattle.claims.specs.Call.Outcome.{no}
 use Rattle.claims.specs.Reader.{Reader, heldOf, read, reader, verdicts}
-use Rattle.claims.proofs.Kept.{Fits, Follows, Standing, engineOf, pointIn, follows-new, headPoint, dataPoint, repeats-agree, held-agrees, phase-agrees, end-enough}
-use Rattle.claims.proofs.Follows.{kept, Takes, takes-data, follows-step, follows-run, begun-data, takes-loaded, opening-verified}
+use Rattle.claims.specs.Messages.{answerOf}
+use Rattle.claims.specs.Refused.{Failed}
+use Rattle.claims.specs.Machine.{engine, after, Demand3}
+use Rattle.claims.proofs.Kept.{Fits, Follows, Standing, engineOf, pointIn, follows-new, headPoint, dataPoint}
+use Rattle.claims.proofs.Kept.{repeats-agree, held-agrees, phase-agrees, end-enough}
+use Rattle.claims.proofs.Follows.{kept, Takes, takes-data, follows-step, follows-run, begun-data, takes-loaded}
+use Rattle.claims.proofs.Follows.{opening-verified}
 use Rattle.claims.proofs.Points.{blockPoint}
 use Rattle.claims.proofs.PublicState.{length-inArray}
-use Rattle.claims.proofs.Demand1.{Failed, six-leaves}
+use Rattle.claims.proofs.Demand1.{six-leaves}
 use Rattle.claims.proofs.Demand3.{Linked, sheets-and-verdicts, first-sheets-and-verdicts}
-use Rattle.claims.proofs.Machine.{engine, after, expected, Demand3}
 use Rattle.claims.proofs.Meets.{engine-answers, engine-meets-3}
 
 -- the held bytes count in Data, where point and reader agree
@@ -114,7 +118,7 @@ engine-demand-3 = engine-meets-3 Follows linked follows-new keeps
 
 -- Demand 2, the answers: every call but mac, after every list of calls, is answered as the tables say.
 pub engine-answered : (v : SparkleVariant) (before : List Call) (c : Call) → (c ≡ Call.tag → ⊥)
-    → engine .step (after engine (engine .new v) before) c .line .outcome ≡ expected (paramsOf v) (reader v before) c
+    → engine .step (after engine (engine .new v) before) c .line .outcome ≡ answerOf (paramsOf v) (reader v before) c
 engine-answered = engine-answers Follows linked follows-new keeps
 
 -- Demand 1, the failed tag: the engine's buffer is an array of 64 bytes, so 6 leaves what `Failed` says after every list

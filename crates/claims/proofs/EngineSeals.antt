@@ -14,30 +14,26 @@ use Rattle.tc_sparkle_aead.specs.declared.engine.SparkleEngine.{SparkleEngine}
 use Rattle.tc_sparkle_aead.specs.Variant.{paramsOf}
 use Rattle.tc_sparkle_aead.specs.Checks.{dataCheck}
 use Rattle.tc_sparkle_aead.specs.Engine.{newEngine}
-use Rattle.claims.specs.Call.{Call, Left, Outcome, outcome, step, line, run, runFrom}
-use Rattle.claims.specs.Call.Outcome.{ok, no}
+use Rattle.claims.specs.Call.{Call, outcome, step, line, run, runFrom}
+use Rattle.claims.specs.Call.Outcome.{ok}
 use Rattle.claims.specs.Reader.{Reader, heldOf, readMessage, read, readFrom}
+use Rattle.claims.specs.Messages.{outputs, Betweens, begunEngine, wrote, answerOf}
+use Rattle.claims.specs.Machine.{engine, linesOf, sheetOf, bytesOf, Piece, dataCalls, joined, pieceCalls, AllOk}
+use Rattle.claims.specs.Machine.{Demand2}
+use Rattle.claims.specs.Machine.AllOk.{none, more}
 use Rattle.claims.proofs.Kept.{Follows}
 use Rattle.claims.proofs.Follows.{follows-step}
 use Rattle.claims.proofs.Written.{outcome-ok}
-use Rattle.claims.proofs.Whole.{outputs, Betweens, begunEngine, startedReader, begun-follows, sealed-taken, opened-taken}
-use Rattle.claims.proofs.Whole.{wrote as wroteBytes}
-use Rattle.claims.proofs.Machine.{engine, linesOf, sheetOf, wrote, bytesOf, expected, Piece, dataCalls, messageOf, messageCalls, AllOk, Demand2}
-use Rattle.claims.proofs.Machine.AllOk.{none, more}
+use Rattle.claims.proofs.Whole.{startedReader, begun-follows, sealed-taken, opened-taken}
 use Rattle.claims.proofs.Meets.{answered}
 use Rattle.claims.proofs.EngineMeets.{linked, engine-answered}
 use Rattle.claims.proofs.EngineCounts.{engine-counted}
 
-wrote-bytes : (o : Outcome) (l : Left) → l .outcome ≡ o → wrote o (l .buffer) ≡ wroteBytes l
-unfolding wroteBytes
-wrote-bytes (ok n) l q = rw q
-wrote-bytes (no r) l q = rw q
-
 bytes-outputs : (e : SparkleEngine) (calls : List Call) → bytesOf engine e calls ≡ outputs e calls
-unfolding outputs line
+unfolding outputs wrote line
 bytes-outputs e [] = refl
 bytes-outputs e (c ∷ calls) =
-    ap₂ (λ (a b : List ℕ). a ++ b) (wrote-bytes (step e c .outcome) (step e c) refl) (bytes-outputs (step e c .engine) calls)
+    ap (λ (l : List ℕ). wrote (step e c) ++ l) (bytes-outputs (step e c .engine) calls)
 
 -- the data calls alone
 abbrev messages : List Piece → List Call
@@ -58,7 +54,7 @@ message-read : (v : SparkleVariant) (e : SparkleEngine) (r : Reader) → Follows
     → step e (Call.message input out) .outcome ≡ ok n
     → (read (paramsOf v) r (Call.message input out) .reader .header ≡ r .header)
     × (read (paramsOf v) r (Call.message input out) .reader .body ≡ r .body ++ input)
-unfolding read expected
+unfolding read answerOf
 message-read v e r w input out n q =
     let p = paramsOf v in
     let a : outcome (dataCheck p (r .phase) (heldOf p r) (length input) (length out)) ≡ ok n =
@@ -72,7 +68,7 @@ record Gone (v : SparkleVariant) (pieces : List Piece) (out : List ℕ) (e : Spa
   count : ℕ
   end-ok : step (runFrom e (messages pieces)) (Call.end out) .outcome ≡ ok count
   header-is : readFrom (paramsOf v) r (messages pieces) .header ≡ r .header
-  body-is : readFrom (paramsOf v) r (messages pieces) .body ≡ r .body ++ messageOf pieces
+  body-is : readFrom (paramsOf v) r (messages pieces) .body ≡ r .body ++ joined pieces
 
 gone : (v : SparkleVariant) (pieces : List Piece) (out : List ℕ) (e : SparkleEngine) (r : Reader) → Follows v e r
     → AllOk (linesOf engine e (dataCalls pieces out)) → Gone v pieces out e r
@@ -89,7 +85,7 @@ gone v (x ∷ pieces) out e r w (more n q all) =
       end-ok = g .end-ok;
       header-is = g .header-is ∙ m .0;
       body-is =
-          g .body-is ∙ ap (λ (l : List ℕ). l ++ messageOf pieces) (m .1) ∙ append-assoc (r .body) (x .input) (messageOf pieces);
+          g .body-is ∙ ap (λ (l : List ℕ). l ++ joined pieces) (m .1) ∙ append-assoc (r .body) (x .input) (joined pieces);
     }
 
 -- a message without refusal, by its start
@@ -102,17 +98,17 @@ module _ (v : SparkleVariant) (d : Direction) (key nonce header : List ℕ) (siz
       (begun-follows v [] d key nonce size header (messages pieces) out k taken
       (messages-between (begunEngine v [] d key nonce size header) pieces)) all
 
-  written-outputs : bytesOf engine (newEngine v) (messageCalls d key nonce header size pieces out)
+  written-outputs : bytesOf engine (newEngine v) (pieceCalls d key nonce header size pieces out)
       ≡ outputs (run v []) (Call.start d key nonce size header ∷ (messages pieces ++ (Call.end out ∷ [])))
   unfolding run runFrom
   written-outputs =
-      bytes-outputs (newEngine v) (messageCalls d key nonce header size pieces out)
+      bytes-outputs (newEngine v) (pieceCalls d key nonce header size pieces out)
       ∙ ap (λ (l : List Call). outputs (newEngine v) (Call.start d key nonce size header ∷ l)) (data-calls pieces out)
 
 module _ (v : SparkleVariant) (key nonce header : List ℕ) (size : ℕ) (pieces : List Piece) (out : List ℕ) where
-  pub engine-seals : AllOk (sheetOf engine v (messageCalls Encrypt key nonce header size pieces out))
-      → bytesOf engine (engine .new v) (messageCalls Encrypt key nonce header size pieces out)
-      ≡ seal (paramsOf v) key nonce header (messageOf pieces)
+  pub engine-seals : AllOk (sheetOf engine v (pieceCalls Encrypt key nonce header size pieces out))
+      → bytesOf engine (engine .new v) (pieceCalls Encrypt key nonce header size pieces out)
+      ≡ seal (paramsOf v) key nonce header (joined pieces)
   unfolding run runFrom line
   engine-seals (more k q all) =
       let g = left v Encrypt key nonce header size pieces out k q all in
@@ -121,9 +117,9 @@ module _ (v : SparkleVariant) (key nonce header : List ℕ) (size : ℕ) (pieces
       (messages-between (begunEngine v [] Encrypt key nonce size header) pieces) (g .end-ok)
       ∙ ap₂ (λ (h m : List ℕ). seal (paramsOf v) key nonce h m) (g .header-is) (g .body-is)
 
-  pub engine-opens : AllOk (sheetOf engine v (messageCalls Decrypt key nonce header size pieces out))
-      → bytesOf engine (engine .new v) (messageCalls Decrypt key nonce header size pieces out)
-      ≡ decrypt (paramsOf v) key nonce header (body (paramsOf v) (messageOf pieces))
+  pub engine-opens : AllOk (sheetOf engine v (pieceCalls Decrypt key nonce header size pieces out))
+      → bytesOf engine (engine .new v) (pieceCalls Decrypt key nonce header size pieces out)
+      ≡ decrypt (paramsOf v) key nonce header (body (paramsOf v) (joined pieces))
   unfolding run runFrom line
   engine-opens (more k q all) =
       let g = left v Decrypt key nonce header size pieces out k q all in

@@ -30,10 +30,17 @@ use Rattle.tc_sparkle_aead.specs.Calls.{stateIn, heldBytes, addSteps, atPoint, 
 use Rattle.tc_sparkle_aead.specs.Calls.{reset as resetEngine}
 use Rattle.tc_sparkle_aead.proofs.VariantLaws.{sizes, small}
 use Rattle.claims.specs.Call.{Call, step, runFrom, run}
-use Rattle.claims.specs.Reader.{Reader, newReader, inPhase, headerPhase, heldOf, repeated, readStart, readHeader, readMessage, readEnd, resetIn, read, readFrom, reader}
+use Rattle.claims.specs.Reader.{Reader, newReader, inPhase, headerPhase, heldOf, repeated, readStart, readHeader}
+use Rattle.claims.specs.Reader.{readMessage, readEnd, resetIn, read, readFrom, reader}
 use Rattle.claims.proofs.Points.{blockPoint}
-use Rattle.claims.proofs.Packets.{last-state, last-steps, length-body, packet-blocks, packet-state, held-block, held-received}
-use Rattle.claims.proofs.Kept.{headPoint, dataPoint, pointIn, initialIn, pairIn, headCount, dataCount, engineOf, openedMac, Standing, Fits, Follows, follows-new, holds-init, holds-aad, head-point, head-count, started-point, started-count, begin-point-init, begin-point-aad, begin-count-init, begin-count-aad, holds-data, state-data, data-point, data-count, key-back, repeats-agree, heldNow, data-agrees, update-agrees, total-agrees, end-agrees, phase-agrees, end-enough, start-good, Sealed}
+use Rattle.claims.proofs.Packets.{last-state, last-steps, length-body, packet-blocks, packet-state, held-block}
+use Rattle.claims.proofs.Packets.{held-received}
+use Rattle.claims.proofs.Kept.{headPoint, dataPoint, pointIn, initialIn, pairIn, headCount, dataCount, engineOf}
+use Rattle.claims.proofs.Kept.{openedMac, Standing, Fits, Follows, follows-new, holds-init, holds-aad, head-point}
+use Rattle.claims.proofs.Kept.{head-count, started-point, started-count, begin-point-init, begin-point-aad}
+use Rattle.claims.proofs.Kept.{begin-count-init, begin-count-aad, holds-data, state-data, data-point, data-count}
+use Rattle.claims.proofs.Kept.{key-back, repeats-agree, heldNow, data-agrees, update-agrees, total-agrees, end-agrees}
+use Rattle.claims.proofs.Kept.{phase-agrees, end-enough, start-good, Sealed}
 
 -- ---- The calls
 

@@ -37,7 +37,8 @@ use Rattle.tc_sparkle_aead.specs.Engine.{zeros, inArray, noMessage, noMac, noPa
 use Rattle.tc_sparkle_aead.specs.Calls.{stateIn, putState, heldBytes, stream, blocks, streamed, startPoint, headed, headedSteps, plainOf, finalPoint, readable}
 use Rattle.tc_sparkle_aead.proofs.VariantLaws.{Small}
 use Rattle.claims.specs.Reader.{Reader, newReader, headerPhase}
-use Rattle.claims.proofs.Points.{take-inArray, ready-zero, held-nil, blockPoint, blockPoint-nil, heldBytes-aad, heldBytes-data, state-point, blocks-point, put-point, streamed-point, given-point}
+use Rattle.claims.proofs.Points.{take-inArray, ready-zero, held-nil, blockPoint, blockPoint-nil, heldBytes-aad}
+use Rattle.claims.proofs.Points.{heldBytes-data, state-point, blocks-point, put-point, streamed-point, given-point}
 
 -- ---- What the engine is, from what the reader keeps
 

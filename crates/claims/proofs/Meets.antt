@@ -20,10 +20,12 @@ use Rattle.tc_sparkle_aead.specs.Variant.{paramsOf}
 use Rattle.tc_sparkle_aead.specs.Checks.{opening, heldIn, updateLen, totalLen, aadCheck, headerCheck, dataCheck, endCheck, startCheck}
 use Rattle.tc_sparkle_aead.specs.Engine.{newEngine}
 use Rattle.claims.specs.Call.{Call, shape, outcome, startOutcome, step, Line, line, lines, sheet}
-use Rattle.claims.specs.Reader.{verdictOf, Reader, newReader, repeated, heldOf, readStart, readEnd, endIn, read, readFrom, reader}
+use Rattle.claims.specs.Reader.{verdictOf, Reader, newReader, repeated, heldOf, readStart, readEnd, endIn, read}
+use Rattle.claims.specs.Reader.{readFrom, reader}
+use Rattle.claims.specs.Messages.{openOutcome, endOutcome, answerOf}
+use Rattle.claims.specs.Machine.{engine, after, linesOf, Demand3}
 use Rattle.claims.proofs.PublicState.{publicOf, yes, headerShows, shows, shows-is, start-verdict}
 use Rattle.claims.proofs.Demand3.{Linked, asked-is-read, readStart-note, endCheck-held, sheets-and-verdicts}
-use Rattle.claims.proofs.Machine.{engine, after, linesOf, openOutcome, endOutcome, expected, Demand3}
 
 -- The checks depend on the held bytes through h.
 updateLen-held : (p : Params) (phase : Phase) (a b n : ℕ) → heldIn p phase a ≡ heldIn p phase b
@@ -122,8 +124,8 @@ module _ (v : SparkleVariant) (e : SparkleEngine) (r : Reader) (l : Linked v e r
   shown c = shows-is e c ∙ ap (shows (publicOf e) (shape c)) (asked-is-read v e r l c)
 
   -- A call that is no mac call is answered as the tables say.
-  pub answered : (c : Call) → (c ≡ Call.tag → ⊥) → step e c .outcome ≡ expected (paramsOf v) r c
-  unfolding expected read
+  pub answered : (c : Call) → (c ≡ Call.tag → ⊥) → step e c .outcome ≡ answerOf (paramsOf v) r c
+  unfolding answerOf read
   answered (Call.start d key nonce size header) other =
       shown (Call.start d key nonce size header)
       ∙ start-expected v (e .variant) r (e .current .phase) (e .current .held) (l .variant) (l .phase) (l .held) d key nonce header size
@@ -145,7 +147,7 @@ module _ (v : SparkleVariant) (e : SparkleEngine) (r : Reader) (l : Linked v e r
       shown (Call.output n)
       ∙ output-expected v (e .variant) r (e .current .phase) (e .current .held) (l .variant) (l .phase) (l .held) n
 
-engine-lines : (e : SparkleEngine) (xs : List Call) → linesOf engine e xs ≡ lines e xs
+pub engine-lines : (e : SparkleEngine) (xs : List Call) → linesOf engine e xs ≡ lines e xs
 unfolding lines
 engine-lines e [] = refl
 engine-lines e (x ∷ xs) = ap (λ (ls : List Line). line (step e x) ∷ ls) (engine-lines (step e x .engine) xs)
@@ -165,7 +167,7 @@ module _ (Follows : SparkleVariant → SparkleEngine → Reader → Type 0)
 
     -- Demand 2, the answers.
     pub engine-answers : (v : SparkleVariant) (before : List Call) (c : Call) → (c ≡ Call.tag → ⊥)
-        → engine .step (after engine (engine .new v) before) c .line .outcome ≡ expected (paramsOf v) (reader v before) c
+        → engine .step (after engine (engine .new v) before) c .line .outcome ≡ answerOf (paramsOf v) (reader v before) c
     unfolding reader line
     engine-answers v before c other =
         answered v (after engine (newEngine v) before) (readFrom (paramsOf v) newReader before)

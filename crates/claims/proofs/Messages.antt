@@ -7,7 +7,7 @@ use native.Mathlib.Nat.{div-mul-le-self}
 use native.Mathlib.Omega.{arith}
 use borrow.Author.Tests.{le-ltb}
 use lib.Dec.{ltb}
-use lib.ListN.{length, drop, length-append}
+use lib.ListN.{length, length-append}
 use Rattle.schwaemm.specs.Blocks.{ready}
 use Rattle.schwaemm.specs.Schwaemm.{Params, Sizes, decrypt, seal, tag, steps, body as bodyOf, verified}
 use Rattle.schwaemm.proofs.Cut.{ready-bound}
@@ -25,92 +25,26 @@ use Rattle.tc_sparkle_aead.specs.declared.engine.Mac.{Mac}
 use Rattle.tc_sparkle_aead.specs.declared.engine.SparkleEngine.{SparkleEngine}
 use Rattle.tc_sparkle_aead.specs.Variant.{paramsOf}
 use Rattle.tc_sparkle_aead.specs.Checks.{opening, keep, heldIn, then, phaseCheck, updateLen, totalLen, room, whole, aadCheck, headerCheck, dataCheck, endCheck}
-use Rattle.tc_sparkle_aead.specs.Engine.{zeros, noMac, updateOutputLen, outputLen}
+use Rattle.tc_sparkle_aead.specs.Engine.{noMac, updateOutputLen, outputLen}
 use Rattle.tc_sparkle_aead.specs.Calls.{aadBy, processAadBytes, readable, macOf, stepsNow}
 use Rattle.tc_sparkle_aead.proofs.VariantLaws.{sizes, small, keep-bound}
 use Rattle.tc_sparkle_aead.proofs.CheckLaws.{updateLen-fits, totalLen-opening, totalLen-sealing, startCheck-opening, startCheck-sealing}
 use Rattle.claims.specs.Call.{Call, step, runFrom, run, Outcome, outcome, startOutcome}
-use Rattle.claims.specs.Reader.{Reader, heldOf, headerPhase, repeated, aadPhase, readHeader, readMessage, read, readFrom, reader}
+use Rattle.claims.specs.Reader.{Reader, heldOf, headerPhase, repeated, aadPhase, readHeader, readMessage, read}
+use Rattle.claims.specs.Reader.{readFrom, reader}
+use Rattle.claims.specs.Messages.{messageOf, headerIn, dataOf, countOf, outputs, Between, Betweens, Each, begunEngine}
+use Rattle.claims.specs.Messages.{headers, datas, HeaderCall, DataCall, messageCalls, RoomFor, Rooms, Ample, Taken}
+use Rattle.claims.specs.Messages.{Accepts, Completes, Rejects, RoundTrip}
 use Rattle.claims.proofs.Packets.{length-body}
 use Rattle.claims.proofs.Kept.{Follows, Standing, engineOf}
-use Rattle.claims.proofs.Follows.{Takes, kept, follows-step, follows-from, follows-run, aad-some, header-answer, update-answer, total-answer}
+use Rattle.claims.proofs.Follows.{Takes, kept, follows-step, follows-from, follows-run, aad-some, header-answer}
+use Rattle.claims.proofs.Follows.{update-answer, total-answer}
 use Rattle.claims.proofs.Accepted.{within-good, total-good, takes-opening}
-use Rattle.claims.proofs.Written.{outcome-ok, messageOf, end-ended, message-outcome, seal-end, open-end}
-use Rattle.claims.proofs.Whole.{headerIn, dataOf, countOf, takes-message, outputs, Between, Betweens, Each, Going, startedReader, start-outcome, begunEngine, lastReader, begun-follows, last-follows, last-going, sealed-taken, opened-taken}
-
--- ---- Header calls and data calls, with queries and mac between them
-
-abbrev pub HeaderCall : Call → Type 0
-HeaderCall (Call.start d key nonce size h) = ⊥
-HeaderCall (Call.header input) = Unit {0}
-HeaderCall (Call.message input out) = ⊥
-HeaderCall (Call.end out) = ⊥
-HeaderCall Call.reset = ⊥
-HeaderCall Call.tag = Unit {0}
-HeaderCall (Call.update n) = Unit {0}
-HeaderCall (Call.output n) = Unit {0}
-
-abbrev pub DataCall : Call → Type 0
-DataCall (Call.start d key nonce size h) = ⊥
-DataCall (Call.header input) = ⊥
-DataCall (Call.message input out) = Unit {0}
-DataCall (Call.end out) = ⊥
-DataCall Call.reset = ⊥
-DataCall Call.tag = Unit {0}
-DataCall (Call.update n) = Unit {0}
-DataCall (Call.output n) = Unit {0}
-
--- What the header calls and the data calls of a list bring.
-abbrev pub headers : List Call → List ℕ
-headers [] = []
-headers (c ∷ calls) = headerIn c ++ headers calls
-
-abbrev pub datas : List Call → List ℕ
-datas [] = []
-datas (c ∷ calls) = dataOf c ++ datas calls
+use Rattle.claims.proofs.Written.{outcome-ok, end-ended, message-outcome, seal-end, open-end}
+use Rattle.claims.proofs.Whole.{takes-message, Going, startedReader, start-outcome, lastReader, begun-follows}
+use Rattle.claims.proofs.Whole.{last-follows, last-going, sealed-taken, opened-taken}
 
 -- ---- Room and acceptance
-
--- An output has at least the length that the query answers.
-abbrev pub RoomFor : SparkleEngine → Call → Type 0
-RoomFor e (Call.start d key nonce size h) = Unit {0}
-RoomFor e (Call.header input) = Unit {0}
-RoomFor e (Call.message input out) = (n : ℕ) → step e (Call.update (length input)) .outcome ≡ Outcome.ok n → n ≤ length out
-RoomFor e (Call.end out) = (n : ℕ) → step e (Call.output 0) .outcome ≡ Outcome.ok n → n ≤ length out
-RoomFor e Call.reset = Unit {0}
-RoomFor e Call.tag = Unit {0}
-RoomFor e (Call.update n) = Unit {0}
-RoomFor e (Call.output n) = Unit {0}
-
-abbrev pub Rooms : SparkleEngine → List Call → Type 0
-Rooms e [] = Unit {0}
-Rooms e (c ∷ calls) = RoomFor e c × Rooms (step e c .engine) calls
-
--- A call is accepted; of a query nothing is asked.
-abbrev pub Taken : Call → Outcome → Type 0
-Taken (Call.start d key nonce size h) o = (n : ℕ) × (o ≡ Outcome.ok n)
-Taken (Call.header input) o = (n : ℕ) × (o ≡ Outcome.ok n)
-Taken (Call.message input out) o = (n : ℕ) × (o ≡ Outcome.ok n)
-Taken (Call.end out) o = (n : ℕ) × (o ≡ Outcome.ok n)
-Taken Call.reset o = (n : ℕ) × (o ≡ Outcome.ok n)
-Taken Call.tag o = (n : ℕ) × (o ≡ Outcome.ok n)
-Taken (Call.update k) o = Unit {0}
-Taken (Call.output k) o = Unit {0}
-
-abbrev pub Accepts : SparkleEngine → List Call → Type 0
-Accepts e [] = Unit {0}
-Accepts e (c ∷ calls) = Taken c (step e c .outcome) × Accepts (step e c .engine) calls
-
--- Ample outputs have room, whatever the engine: at most 64 bytes are held, and a tag has at most 32.
-abbrev pub Ample : Call → Type 0
-Ample (Call.start d key nonce size h) = Unit {0}
-Ample (Call.header input) = Unit {0}
-Ample (Call.message input out) = length input + 64 ≤ length out
-Ample (Call.end out) = 96 ≤ length out
-Ample Call.reset = Unit {0}
-Ample Call.tag = Unit {0}
-Ample (Call.update n) = Unit {0}
-Ample (Call.output n) = Unit {0}
 
 rooms-append : (e : SparkleEngine) (xs ys : List Call) → Rooms e (xs ++ ys) → Rooms e xs × Rooms (runFrom e xs) ys
 unfolding runFrom
@@ -515,26 +449,6 @@ arrived v d key nonce initial e w hs ms bh bm short rooms =
       body-is = ap (λ (x : Reader). x .body) is ∙ dq .body-is ∙ ap (λ (l : List ℕ). l ++ datas ms) (hq .body-is);
     }
 
--- A message from start to end: header calls, then data calls, with queries and mac anywhere between.
-abbrev pub messageCalls : Direction → (key nonce : List ℕ) → ℕ → (initial : List ℕ) → List Call → List Call
-    → (out : List ℕ) → List Call
-messageCalls d key nonce size initial hs ms out = Call.start d key nonce size initial ∷ ((hs ++ ms) ++ (Call.end out ∷ []))
-
--- All of it is accepted and writes these bytes; afterwards this tag can be read, and so many steps have run.
-pub record Completes (e : SparkleEngine) (calls : List Call) (bytes tag : List ℕ) (count : ℕ) : Type 0 where
-  pub accepted : Accepts e calls
-  pub bytes-are : outputs e calls ≡ bytes
-  pub tag-is : macOf (runFrom e calls) ≡ readable tag
-  pub steps-are : stepsNow (runFrom e calls) ≡ count
-
--- Up to the end all is accepted; the end answers 6, writes zeros, and leaves no tag to read.
-pub record Rejects (e : SparkleEngine) (calls : List Call) (out : List ℕ) (count : ℕ) : Type 0 where
-  pub accepted : Accepts e calls
-  pub outcome-is : step (runFrom e calls) (Call.end out) .outcome ≡ Outcome.no (6 ∷ [])
-  pub zeros-are : (n : ℕ) × (step (runFrom e calls) (Call.end out) .buffer ≡ zeros n ++ drop n out)
-  pub no-tag : macOf (step (runFrom e calls) (Call.end out) .engine) ≡ noMac
-  pub steps-are : stepsNow (step (runFrom e calls) (Call.end out) .engine) ≡ count
-
 module _ (v : SparkleVariant) (before : List Call) (key nonce : List ℕ) (size : ℕ) (initial : List ℕ) (hs ms : List Call)
     (out : List ℕ)
     (key-fits : length key ≡ paramsOf v .key) (nonce-fits : length nonce ≡ paramsOf v .rate)
@@ -747,14 +661,6 @@ module _ (v : SparkleVariant) (before : List Call) (key nonce : List ℕ) (size 
           no-tag = open-mac false bad;
           steps-are = open-steps _ (z .steps-are);
         }
-
--- What one list of calls seals, another opens: under the same key, nonce and header, with the sealed bytes for data, both
--- cut anyhow and with room, both are accepted, and the opening writes the data that was sealed.
-pub record RoundTrip (v : SparkleVariant) (before after : List Call) (sealing opening : List Call)
-    (m : List ℕ) : Type 0 where
-  pub sealing-accepted : Accepts (run v before) sealing
-  pub opening-accepted : Accepts (run v after) opening
-  pub returned : outputs (run v after) opening ≡ m
 
 pub opened-sealed : (v : SparkleVariant) (before after : List Call) (key nonce : List ℕ) (size : ℕ)
     (initial initial' : List ℕ) (hs hs' ms ms' : List Call) (out out' : List ℕ)

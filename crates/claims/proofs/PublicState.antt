@@ -34,7 +34,7 @@ use Rattle.claims.specs.Call.{Call, Shape, shape, Outcome, outcome, star
 use Rattle.claims.specs.Call.Outcome.{ok, no}
 use Rattle.claims.specs.Reader.{Verdict, verdictOf, startVerdict, refusedVerdict}
 use Rattle.claims.specs.Reader.Verdict.{Yes, No, None}
-use Rattle.claims.proofs.Machine.{openOutcome, endOutcome}
+use Rattle.claims.specs.Messages.{openOutcome, endOutcome}
 
 -- ---- The public state
 

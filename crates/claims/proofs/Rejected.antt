@@ -26,13 +26,15 @@ use Rattle.tc_sparkle_aead.specs.Variant.{paramsOf}
 use Rattle.tc_sparkle_aead.specs.Checks.{opening, keep, heldIn, within64, then, room, whole, updateLen, totalLen, aadCheck, dataCheck, endCheck, startCheck}
 use Rattle.tc_sparkle_aead.specs.Engine.{newEngine}
 use Rattle.tc_sparkle_aead.specs.Calls.{stepsNow}
-use Rattle.claims.specs.Call.{Call, Outcome, outcome, startOutcome, step, Line, line}
+use Rattle.claims.specs.Call.{Call, outcome, startOutcome, step, Line, line}
 use Rattle.claims.specs.Call.Outcome.{ok, no}
 use Rattle.claims.specs.Reader.{Reader, newReader, heldOf, repeated, read, notes, verdicts, reader, readFrom}
 use Rattle.claims.specs.Reader.Verdict.{Yes, No}
-use Rattle.claims.proofs.Demand1.{lent}
-use Rattle.claims.proofs.Machine.{Reply, Machine, engine, after, sheetOf, bytesOf, endOutcome, expected, counts, Demand2, Demand3}
-use Rattle.claims.proofs.Machine.AllOk.{none, more}
+use Rattle.claims.specs.Messages.{endOutcome, answerOf}
+use Rattle.claims.specs.Refused.{lent}
+use Rattle.claims.specs.Machine.{Machine, engine, after, sheetOf, bytesOf, counts, Demand2, Demand3}
+use Rattle.claims.specs.Machine.AllOk.{none, more}
+use Rattle.claims.specs.Rejected.{notInitialized, fixed, untouched, accepted, skipStep, skipping, inventing, finalizing}
 
 -- ---- The calls of the refutations: variant 1, contents 0 or 1
 
@@ -46,12 +48,12 @@ abbrev begin : List ℕ → Call
 begin key = Call.start Encrypt key zeros16 16 []
 
 -- A start with the right lengths is accepted, one with an empty key is not.
-begin-accepted : expected (paramsOf «Schwaemm128_128») (reader «Schwaemm128_128» []) (begin zeros16) ≡ ok 0
-unfolding expected reader readFrom startCheck
+begin-accepted : answerOf (paramsOf «Schwaemm128_128») (reader «Schwaemm128_128» []) (begin zeros16) ≡ ok 0
+unfolding answerOf reader readFrom startCheck
 begin-accepted = refl
 
-begin-refused : expected (paramsOf «Schwaemm128_128») (reader «Schwaemm128_128» []) (begin []) ≡ no (1 ∷ (0 ∷ []))
-unfolding expected reader readFrom startCheck
+begin-refused : answerOf (paramsOf «Schwaemm128_128») (reader «Schwaemm128_128» []) (begin []) ≡ no (1 ∷ (0 ∷ []))
+unfolding answerOf reader readFrom startCheck
 begin-refused = refl
 
 -- Of two starts the second repeats the first pair, or does not: the lists are alike, the verdicts differ.
@@ -75,19 +77,6 @@ same-sheets-rejected m equal demand =
 
 -- ---- One reporting NotInitialized to everything
 
-abbrev pub notInitialized : Machine
-notInitialized =
-    record {
-      State = Unit {0};
-      new = λ v. tt;
-      step = λ s c.
-          record {
-            state = tt;
-            line = record { outcome = no (8 ∷ []); steps = 0; readable = false };
-            buffer = lent c;
-          };
-    }
-
 pub notInitialized-fails-2 : Demand2 notInitialized → ⊥
 notInitialized-fails-2 demand =
     let a : no (8 ∷ []) ≡ ok 0 =
@@ -99,14 +88,6 @@ pub notInitialized-fails-3 : Demand3 notInitialized → ⊥
 notInitialized-fails-3 demand = same-sheets-rejected notInitialized refl demand
 
 -- ---- One with a fixed sheet, whatever the sheet and whatever it writes
-
-abbrev pub fixed : (ℕ → Line) → (ℕ → Call → List ℕ) → Machine
-fixed f write =
-    record {
-      State = ℕ;
-      new = λ v. 0;
-      step = λ n c. record { state = suc n; line = f n; buffer = write n c };
-    }
 
 module _ (f : ℕ → Line) (write : ℕ → Call → List ℕ) where
   pub fixed-fails-2 : Demand2 (fixed f write) → ⊥
@@ -126,8 +107,8 @@ module _ (f : ℕ → Line) (write : ℕ → Call → List ℕ) where
 
 -- An end after a start writes the tag's 16 bytes.
 end-accepted : (out : List ℕ) → length out ≡ 16
-    → expected (paramsOf «Schwaemm128_128») (reader «Schwaemm128_128» (begin zeros16 ∷ [])) (Call.end out) ≡ ok 16
-unfolding expected reader readFrom read startCheck endCheck totalLen ready
+    → answerOf (paramsOf «Schwaemm128_128») (reader «Schwaemm128_128» (begin zeros16 ∷ [])) (Call.end out) ≡ ok 16
+unfolding answerOf reader readFrom read startCheck endCheck totalLen ready
 end-accepted out q = rw q
 
 -- Every machine that leaves the outputs as they were lent fails demand 2, however right its answers are.
@@ -155,15 +136,6 @@ module _ (m : Machine) (untouches : (s : m .State) (c : Call) → m .step s c .b
       let w : _≡_ {A = List ℕ} zeros16 ones16 = untouched-bytes zeros16 refl ∙ sym (untouched-bytes ones16 refl) in
       let z : _≡_ {A = ℕ} 0 1 = cc in omega arith
 
--- The engine with its outputs left untouched.
-abbrev pub untouched : Machine
-untouched =
-    record {
-      State = SparkleEngine;
-      new = newEngine;
-      step = λ e c. record { state = step e c .engine; line = line (step e c); buffer = lent c };
-    }
-
 pub untouched-engine-fails-2 : Demand2 untouched → ⊥
 untouched-engine-fails-2 demand = untouched-fails-2 untouched (λ s c. refl) demand
 
@@ -175,17 +147,17 @@ byte = Call.message (0 ∷ []) []
 abbrev last : Call
 last = Call.end (replicate 18 0)
 
-byte-accepted : expected (paramsOf «Schwaemm128_128») (reader «Schwaemm128_128» (begin zeros16 ∷ [])) byte ≡ ok 0
-unfolding expected reader readFrom read startCheck dataCheck updateLen ready
+byte-accepted : answerOf (paramsOf «Schwaemm128_128») (reader «Schwaemm128_128» (begin zeros16 ∷ [])) byte ≡ ok 0
+unfolding answerOf reader readFrom read startCheck dataCheck updateLen ready
 byte-accepted = refl
 
-last-of-one : expected (paramsOf «Schwaemm128_128») (reader «Schwaemm128_128» (begin zeros16 ∷ (byte ∷ []))) last ≡ ok 17
-unfolding expected reader readFrom read startCheck dataCheck updateLen endCheck totalLen ready
+last-of-one : answerOf (paramsOf «Schwaemm128_128») (reader «Schwaemm128_128» (begin zeros16 ∷ (byte ∷ []))) last ≡ ok 17
+unfolding answerOf reader readFrom read startCheck dataCheck updateLen endCheck totalLen ready
 last-of-one = refl
 
-last-of-two : expected (paramsOf «Schwaemm128_128») (reader «Schwaemm128_128» (begin zeros16 ∷ (byte ∷ (byte ∷ [])))) last
+last-of-two : answerOf (paramsOf «Schwaemm128_128») (reader «Schwaemm128_128» (begin zeros16 ∷ (byte ∷ (byte ∷ [])))) last
     ≡ ok 18
-unfolding expected reader readFrom read startCheck dataCheck updateLen endCheck totalLen ready
+unfolding answerOf reader readFrom read startCheck dataCheck updateLen endCheck totalLen ready
 last-of-two = refl
 
 -- Every machine on which a data call after an accepted one leaves no trace fails demand 2.
@@ -217,55 +189,6 @@ module _ (m : Machine)
         let e : _≡_ {A = ℕ} 17 18 = cc in
         omega arith
 
--- The engine with a flag, set by an accepted data call and dropped by a start: where it is set, data calls are skipped.
-pub record Flagged : Type 0 where
-  pub engine : SparkleEngine
-  pub flag : Bool
-
-abbrev accepted : Outcome → Bool
-accepted (ok n) = true
-accepted (no r) = false
-
-abbrev skipStep : Bool → SparkleEngine → Call → Reply Flagged
-skipStep b e (Call.start d key nonce size header) =
-    let l = step e (Call.start d key nonce size header) in
-    record { state = record { engine = l .engine; flag = false }; line = line l; buffer = l .buffer }
-skipStep b e (Call.header input) =
-    let l = step e (Call.header input) in
-    record { state = record { engine = l .engine; flag = b }; line = line l; buffer = l .buffer }
-skipStep false e (Call.message input out) =
-    let l = step e (Call.message input out) in
-    record { state = record { engine = l .engine; flag = accepted (l .outcome) }; line = line l; buffer = l .buffer }
-skipStep true e (Call.message input out) =
-    record {
-      state = record { engine = e; flag = true };
-      line = record { outcome = ok 0; steps = stepsNow e; readable = false };
-      buffer = out;
-    }
-skipStep b e (Call.end out) =
-    let l = step e (Call.end out) in
-    record { state = record { engine = l .engine; flag = b }; line = line l; buffer = l .buffer }
-skipStep b e Call.reset =
-    let l = step e Call.reset in
-    record { state = record { engine = l .engine; flag = false }; line = line l; buffer = l .buffer }
-skipStep b e Call.tag =
-    let l = step e Call.tag in
-    record { state = record { engine = l .engine; flag = b }; line = line l; buffer = l .buffer }
-skipStep b e (Call.update n) =
-    let l = step e (Call.update n) in
-    record { state = record { engine = l .engine; flag = b }; line = line l; buffer = l .buffer }
-skipStep b e (Call.output n) =
-    let l = step e (Call.output n) in
-    record { state = record { engine = l .engine; flag = b }; line = line l; buffer = l .buffer }
-
-abbrev pub skipping : Machine
-skipping =
-    record {
-      State = Flagged;
-      new = λ v. record { engine = newEngine v; flag = false };
-      step = λ s c. skipStep (s .flag) (s .engine) c;
-    }
-
 skipping-skips : (b : Bool) (e : SparkleEngine) (input out input' out' : List ℕ) (n : ℕ)
     → skipStep b e (Call.message input out) .line .outcome ≡ ok n
     → skipping .step (skipStep b e (Call.message input out) .state) (Call.message input' out') .state
@@ -290,21 +213,6 @@ begin-steps : counts (paramsOf «Schwaemm128_128») newReader 0 (begin zeros16 �
 unfolding counts read startCheck leading ready
 begin-steps = refl
 
--- The engine with more steps than it ran.
-abbrev pub inventing : ℕ → Machine
-inventing k =
-    record {
-      State = SparkleEngine;
-      new = newEngine;
-      step = λ e c.
-          let l = step e c in
-          record {
-            state = l .engine;
-            line = record { outcome = l .outcome; steps = stepsNow (l .engine) + suc k; readable = line l .readable };
-            buffer = l .buffer;
-          };
-    }
-
 pub inventing-fails-2 : (k : ℕ) → Demand2 (inventing k) → ⊥
 inventing-fails-2 k demand =
     let w = demand .counted «Schwaemm128_128» (Call.tag ∷ []) ∙ tag-steps in
@@ -323,31 +231,6 @@ constant-steps-fail-2 m n constant demand =
     omega (arith, constant s Call.tag, constant s (begin zeros16))
 
 -- ---- One saying AlreadyFinalized outside Final
-
--- The engine that answers 10 to every data call.
-abbrev finalStep : SparkleEngine → Call → Reply SparkleEngine
-finalStep e (Call.start d key nonce size header) =
-    let l = step e (Call.start d key nonce size header) in
-    record { state = l .engine; line = line l; buffer = l .buffer }
-finalStep e (Call.header input) =
-    let l = step e (Call.header input) in record { state = l .engine; line = line l; buffer = l .buffer }
-finalStep e (Call.message input out) =
-    record {
-      state = e;
-      line = record { outcome = no (10 ∷ []); steps = stepsNow e; readable = false };
-      buffer = out;
-    }
-finalStep e (Call.end out) =
-    let l = step e (Call.end out) in record { state = l .engine; line = line l; buffer = l .buffer }
-finalStep e Call.reset = let l = step e Call.reset in record { state = l .engine; line = line l; buffer = l .buffer }
-finalStep e Call.tag = let l = step e Call.tag in record { state = l .engine; line = line l; buffer = l .buffer }
-finalStep e (Call.update n) =
-    let l = step e (Call.update n) in record { state = l .engine; line = line l; buffer = l .buffer }
-finalStep e (Call.output n) =
-    let l = step e (Call.output n) in record { state = l .engine; line = line l; buffer = l .buffer }
-
-abbrev pub finalizing : Machine
-finalizing = record { State = SparkleEngine; new = newEngine; step = finalStep }
 
 pub finalizing-fails-2 : Demand2 finalizing → ⊥
 finalizing-fails-2 demand =
@@ -453,9 +336,9 @@ end-ten p (Data d) held available opens right values q =
     absurd (end-not _ opens right values (past-not p (Data d) held available) q)
 end-ten p (Final d) held available opens right values q = (d, refl)
 
-pub ten-only-in-final : (p : Params) (r : Reader) (c : Call) (values : List ℕ) → expected p r c ≡ no (10 ∷ values)
+pub ten-only-in-final : (p : Params) (r : Reader) (c : Call) (values : List ℕ) → answerOf p r c ≡ no (10 ∷ values)
     → (d : Direction) × (r .phase ≡ Final d)
-unfolding expected
+unfolding answerOf
 ten-only-in-final p r (Call.start d key nonce size header) values q =
     absurd (start-not (startCheck p d (length key) (length nonce) size (repeated r key nonce)) values q)
 ten-only-in-final p r (Call.header input) values q = header-ten (r .phase) (length input) values q

@@ -9,6 +9,7 @@ use lib.ListN.{length, take}
 use lib.Seq.{take-nil}
 use Rattle.schwaemm.specs.Blocks.{given}
 use Rattle.schwaemm.specs.Schwaemm.{Params, crypt, prepared, messageBlock, decrypt, seal, body as bodyOf, verified}
+use Rattle.schwaemm.proofs.RoundTrip.{body-seal, decrypt-encrypt}
 use Rattle.tc_sparkle_aead.specs.declared.variant.SparkleVariant.{SparkleVariant}
 use Rattle.tc_sparkle_aead.specs.declared.phase.Direction.{Direction}
 use Rattle.tc_sparkle_aead.specs.declared.phase.Direction.the-variants.{Encrypt, Decrypt}
@@ -25,28 +26,19 @@ use Rattle.tc_sparkle_aead.specs.Refusals.{refusal}
 use Rattle.tc_sparkle_aead.specs.Checks.{opening, keep, aadCheck, headerCheck, dataCheck, endCheck, startCheck}
 use Rattle.tc_sparkle_aead.specs.Engine.{repeats}
 use Rattle.tc_sparkle_aead.specs.Calls.{plainOf, initBy, init, aadBy, processAadBytes}
-use Rattle.tc_sparkle_aead.proofs.VariantLaws.{small}
+use Rattle.tc_sparkle_aead.proofs.VariantLaws.{sizes, small}
 use Rattle.claims.specs.Call.{Call, Left, step, runFrom, run, Outcome, outcome, startOutcome}
-use Rattle.claims.specs.Reader.{Reader, heldOf, headerPhase, repeated, aadPhase, dataPhase, readHeader, readMessage, readStart, readEnd, read, readFrom, reader}
+use Rattle.claims.specs.Reader.{Reader, heldOf, headerPhase, repeated, aadPhase, dataPhase, readHeader, readMessage}
+use Rattle.claims.specs.Reader.{readStart, readEnd, read, readFrom, reader}
+use Rattle.claims.specs.Messages.{released, Writes, countOf, wrote, outputs, headerIn, dataOf, RefusedByCheck, Between}
+use Rattle.claims.specs.Messages.{Betweens, ifOk, takenHeader, takenData, begunEngine, OpenedUnrefused}
 use Rattle.claims.proofs.Points.{ready-zero}
 use Rattle.claims.proofs.Kept.{Follows, Standing, pairIn, engineOf, repeats-agree}
 use Rattle.claims.proofs.Follows.{Takes, kept, follows-step, follows-from, follows-run, aad-some, header-answer}
-use Rattle.claims.proofs.Accepted.{released, Writes, takes-opening}
+use Rattle.claims.proofs.Accepted.{takes-opening}
 use Rattle.claims.proofs.Written.{message-outcome, message-writes-next, seal-end, open-end, end-refused}
 
 -- ---- The bytes of a list of calls
-
--- What a call wrote: its buffer up to the count that it answers.
-abbrev pub countOf : Outcome → ℕ
-countOf (Outcome.ok n) = n
-countOf (Outcome.no values) = 0
-
-unfoldable pub wrote : Left → List ℕ
-wrote l = take (countOf (l .outcome)) (l .buffer)
-
-unfoldable pub outputs : SparkleEngine → List Call → List ℕ
-outputs e [] = []
-outputs e (c ∷ calls) = wrote (step e c) ++ outputs (step e c .engine) calls
 
 pub outputs-append : (e : SparkleEngine) (xs ys : List Call) → outputs e (xs ++ ys)
     ≡ outputs e xs ++ outputs (runFrom e xs) ys
@@ -58,71 +50,13 @@ outputs-append e (c ∷ xs) ys =
 
 -- ---- Between start and end
 
--- An answer of a check: not 6, which ends a message.
-abbrev pub Refused : Outcome → Type 0
-Refused o = (values : List ℕ) × (o ≡ Outcome.no values) × (values ≡ 6 ∷ [] → ⊥)
-
--- Header calls, data calls, queries, mac, and ends that the checks refuse.
-abbrev pub Between : SparkleEngine → Call → Type 0
-Between e (Call.start d key nonce size h) = ⊥
-Between e (Call.header input) = Unit {0}
-Between e (Call.message input out) = Unit {0}
-Between e (Call.end out) = Refused (step e (Call.end out) .outcome)
-Between e Call.reset = ⊥
-Between e Call.tag = Unit {0}
-Between e (Call.update n) = Unit {0}
-Between e (Call.output n) = Unit {0}
-
-abbrev pub Betweens : SparkleEngine → List Call → Type 0
-Betweens e [] = Unit {0}
-Betweens e (c ∷ calls) = Between e c × Betweens (step e c .engine) calls
-
--- Every call of a list.
-abbrev pub Each : (Call → Type 0) → List Call → Type 0
-Each P [] = Unit {0}
-Each P (c ∷ calls) = P c × Each P calls
-
--- What a header call and a data call bring.
-abbrev pub headerIn : Call → List ℕ
-headerIn (Call.start d key nonce size h) = []
-headerIn (Call.header input) = input
-headerIn (Call.message input out) = []
-headerIn (Call.end out) = []
-headerIn Call.reset = []
-headerIn Call.tag = []
-headerIn (Call.update n) = []
-headerIn (Call.output n) = []
-
-abbrev pub dataOf : Call → List ℕ
-dataOf (Call.start d key nonce size h) = []
-dataOf (Call.header input) = []
-dataOf (Call.message input out) = input
-dataOf (Call.end out) = []
-dataOf Call.reset = []
-dataOf Call.tag = []
-dataOf (Call.update n) = []
-dataOf (Call.output n) = []
-
--- What of a list's header calls and data calls was taken: the inputs of those that were not refused.
-abbrev pub ifOk : Outcome → List ℕ → List ℕ
-ifOk (Outcome.ok n) l = l
-ifOk (Outcome.no values) l = []
-
-unfoldable pub takenHeader : SparkleEngine → List Call → List ℕ
-takenHeader e [] = []
-takenHeader e (c ∷ calls) = ifOk (step e c .outcome) (headerIn c) ++ takenHeader (step e c .engine) calls
-
-unfoldable pub takenData : SparkleEngine → List Call → List ℕ
-takenData e [] = []
-takenData e (c ∷ calls) = ifOk (step e c .outcome) (dataOf c) ++ takenData (step e c .engine) calls
-
 -- an end that the checks refuse changes nothing
-not-passed : (g : Bool) (n : ℕ) (o : Outcome) → o ≡ cond g (Outcome.ok n) (Outcome.no (6 ∷ [])) → Refused o → ⊥
+not-passed : (g : Bool) (n : ℕ) (o : Outcome) → o ≡ cond g (Outcome.ok n) (Outcome.no (6 ∷ [])) → RefusedByCheck o → ⊥
 not-passed true n o e f = let h = f .1 in let z : _≡_ {A = ℕ} 0 1 = cc in omega arith
 not-passed false n o e f = let h = f .1 in f .2 (cc)
 
 pub end-unread : (v : SparkleVariant) (e : SparkleEngine) (r : Reader) → Follows v e r → (out : List ℕ)
-    → Refused (step e (Call.end out) .outcome) → read (paramsOf v) r (Call.end out) .reader ≡ r
+    → RefusedByCheck (step e (Call.end out) .outcome) → read (paramsOf v) r (Call.end out) .reader ≡ r
 unfolding read
 end-unread v e r w out f =
     by (endCheck (paramsOf v) (r .phase) (heldOf (paramsOf v) r) (length out)) refl (opening (r .phase)) refl
@@ -417,11 +351,7 @@ started-going d key nonce (x ∷ header) = record { takes = Takes.takes-aad; key
 
 -- ---- Whole messages, of what was taken
 
--- The engine after a start, and the reader after calls behind one that is taken.
-abbrev pub begunEngine : SparkleVariant → List Call → Direction → (key nonce : List ℕ) → ℕ
-    → (initial : List ℕ) → SparkleEngine
-begunEngine v before d key nonce size initial = step (run v before) (Call.start d key nonce size initial) .engine
-
+-- The reader after calls behind a start that is taken.
 abbrev pub lastReader : SparkleVariant → Direction → (key nonce initial : List ℕ) → List Call → Reader
 lastReader v d key nonce initial between = readFrom (paramsOf v) (startedReader d key nonce initial) between
 
@@ -573,11 +503,6 @@ sealed-unrefused v before key nonce size initial between out k n taken b o =
     ∙ ap₂ (λ (x y : List ℕ). seal (paramsOf v) key nonce x y) (header-taken-from v _ _ w between b)
     (data-taken-from v _ _ w between b)
 
--- An opening's end is taken only for a verified packet, and then its calls give what the packet's body decrypts to.
-pub record OpenedUnrefused (v : SparkleVariant) (key nonce header packet bytes : List ℕ) : Type 0 where
-  pub verifies : verified (paramsOf v) key nonce header packet ≡ true
-  pub bytes-are : bytes ≡ decrypt (paramsOf v) key nonce header (bodyOf (paramsOf v) packet)
-
 pub opened-unrefused : (v : SparkleVariant) (before : List Call) (key nonce : List ℕ) (size : ℕ) (initial : List ℕ)
     (between : List Call) (out : List ℕ)
     (k n : ℕ) → step (run v before) (Call.start Decrypt key nonce size initial) .outcome ≡ Outcome.ok k
@@ -596,3 +521,28 @@ opened-unrefused v before key nonce size initial between out k n taken b o =
       verifies = sym (ap₂ (λ (x y : List ℕ). verified p key nonce x y) hq dq) ∙ q .verifies;
       bytes-are = q .bytes-are ∙ ap₂ (λ (x y : List ℕ). decrypt p key nonce x (bodyOf p y)) hq dq;
     }
+
+-- What unrefused calls seal, unrefused calls open: the bytes that were sealed come back as the data that was taken.
+pub returned-unrefused : (v : SparkleVariant) (before after : List Call) (key nonce : List ℕ)
+    (size size' : ℕ) (initial initial' : List ℕ) (between between' : List Call) (out out' : List ℕ) (k k' n n' : ℕ)
+    → step (run v before) (Call.start Encrypt key nonce size initial) .outcome ≡ Outcome.ok k
+    → Betweens (begunEngine v before Encrypt key nonce size initial) between
+    → step (runFrom (begunEngine v before Encrypt key nonce size initial) between) (Call.end out) .outcome ≡ Outcome.ok n
+    → step (run v after) (Call.start Decrypt key nonce size' initial') .outcome ≡ Outcome.ok k'
+    → Betweens (begunEngine v after Decrypt key nonce size' initial') between'
+    → step (runFrom (begunEngine v after Decrypt key nonce size' initial') between') (Call.end out') .outcome ≡ Outcome.ok n'
+    → initial' ++ takenHeader (begunEngine v after Decrypt key nonce size' initial') between'
+    ≡ initial ++ takenHeader (begunEngine v before Encrypt key nonce size initial) between
+    → takenData (begunEngine v after Decrypt key nonce size' initial') between'
+    ≡ outputs (run v before) (Call.start Encrypt key nonce size initial ∷ (between ++ (Call.end out ∷ [])))
+    → outputs (run v after) (Call.start Decrypt key nonce size' initial' ∷ (between' ++ (Call.end out' ∷ [])))
+    ≡ takenData (begunEngine v before Encrypt key nonce size initial) between
+returned-unrefused v before after key nonce size size' initial initial' between between' out out' k k' n n' st b en st' b' en' he de =
+    let p = paramsOf v in
+    let H = initial ++ takenHeader (begunEngine v before Encrypt key nonce size initial) between in
+    let m = takenData (begunEngine v before Encrypt key nonce size initial) between in
+    let kf = begun-follows v before Encrypt key nonce size initial between out k st b .fits refl .key-fits in
+    let packet = de ∙ sealed-unrefused v before key nonce size initial between out k n st b en in
+    opened-unrefused v after key nonce size' initial' between' out' k' n' st' b' en' .bytes-are
+    ∙ ap₂ (λ (x y : List ℕ). decrypt p key nonce x (bodyOf p y)) he packet
+    ∙ ap (decrypt p key nonce H) (body-seal p (sizes v) key nonce H kf m) ∙ decrypt-encrypt p (sizes v) key nonce H m

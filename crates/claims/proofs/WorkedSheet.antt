@@ -1,41 +1,28 @@
 -- Document 01's list of calls for the program `sheet` ("Worked by hand") has the sheet printed there. It is computed from
 -- the shapes of the calls and their verdicts, without a permutation.
 use mathlib.Core.Path.{_≡_, refl, ap, ap₂, _∙_}
-use mathlib.Core.Bool.{Bool, true, false}
+use mathlib.Core.Bool.{true, false}
 use mathlib.Core.List.{List, [], _∷_, map}
-use Prim.Native.Nat.{ℕ}
-use lib.ListN.{replicate}
 use Rattle.schwaemm.specs.Bytes.{same}
 use Rattle.schwaemm.specs.Blocks.{ready}
 use Rattle.schwaemm.specs.Schwaemm.{leading, stepsOf, steps}
 use Rattle.tc_sparkle_aead.specs.declared.variant.SparkleVariant.{SparkleVariant}
 use Rattle.tc_sparkle_aead.specs.declared.variant.SparkleVariant.the-variants.{«Schwaemm128_128»}
-use Rattle.tc_sparkle_aead.specs.declared.phase.Direction.the-variants.{Encrypt}
 use Rattle.tc_sparkle_aead.specs.declared.engine.SparkleEngine.{SparkleEngine}
 use Rattle.tc_sparkle_aead.specs.Variant.{paramsOf}
 use Rattle.tc_sparkle_aead.specs.Engine.{newEngine, noMessage, noMac, noSteps, initSteps, zeros}
 use Rattle.tc_sparkle_aead.specs.Calls.{addSteps, finalPoint}
 use Rattle.tc_sparkle_aead.specs.Checks.{updateLen, totalLen, aadCheck, dataCheck, endCheck, startCheck}
-use Rattle.claims.specs.Call.{Call, Shape, shape, Outcome, step, Line, lines, sheet}
+use Rattle.claims.specs.Call.{Call, Shape, shape, step, Line, lines, sheet}
 use Rattle.claims.specs.Call.Outcome.{ok, no}
 use Rattle.claims.specs.Reader.{Verdict, newReader, read, notes, verdicts}
 use Rattle.claims.specs.Reader.Verdict.{Yes, No, None}
+use Rattle.claims.specs.Machine.{counts}
+use Rattle.claims.specs.Worked.{worked, row}
 use Rattle.claims.proofs.Kept.{Follows, follows-new}
 use Rattle.claims.proofs.PublicState.{Public, publicOf, next, next-is, lineBy, line-is}
 use Rattle.claims.proofs.Demand3.{askedAll, asked-are-notes}
-use Rattle.claims.proofs.Machine.{counts}
 use Rattle.claims.proofs.EngineMeets.{linked, keeps}
-
-abbrev pub start : Call
-start = Call.start Encrypt (replicate 16 0) (replicate 16 0) 16 []
-
-abbrev pub worked : List Call
-worked =
-    start
-    ∷ (Call.header (replicate 20 0)
-    ∷ (Call.message (replicate 33 0) (replicate 32 0)
-    ∷ (Call.header (replicate 1 0)
-    ∷ (Call.end (replicate 16 0) ∷ (Call.end (replicate 17 0) ∷ (Call.message [] [] ∷ (start ∷ [])))))))
 
 -- What is asked of its steps.
 pub worked-counts : counts (paramsOf «Schwaemm128_128») newReader 0 worked
@@ -72,9 +59,6 @@ sheet-public v calls =
     lines-public calls (newEngine v)
     ∙ ap (publicLines (publicOf (newEngine v)) (map shape calls))
     (asked-are-notes v (Follows v) (linked v) (follows-new v) (keeps v) calls (newEngine v) newReader (follows-new v))
-
-abbrev pub row : Outcome → ℕ → Bool → Line
-row o n b = record { outcome = o; steps = n; readable = b }
 
 pub worked-sheet : sheet «Schwaemm128_128» worked
     ≡ row (ok 0) 10 false

@@ -1,11 +1,11 @@
 -- What each call of a list writes and answers, on an engine that follows the reader.
 use mathlib.Core.Path.{_≡_, refl, sym, ap, ap₂, subst, _∙_}
 use mathlib.Core.Bool.{Bool, true, false, cond}
-use mathlib.Core.List.{List, [], _∷_, _++_}
+use mathlib.Core.List.{List, _++_}
 use Prim.Native.Nat.{ℕ, _-_, _%_, _^_, _≤_}
 use native.Mathlib.Omega.{arith}
 use lib.ListN.{length, drop, length-replicate}
-use Rattle.schwaemm.specs.Schwaemm.{Params, tag, steps, decrypt, seal, body as bodyOf, verified}
+use Rattle.schwaemm.specs.Schwaemm.{tag, steps, decrypt, seal, body as bodyOf, verified}
 use Rattle.schwaemm.specs.Bytes.{same}
 use Rattle.tc_sparkle_aead.specs.declared.variant.SparkleVariant.{SparkleVariant}
 use Rattle.tc_sparkle_aead.specs.declared.phase.Direction.{Direction}
@@ -23,13 +23,17 @@ use Rattle.tc_sparkle_aead.specs.Checks.{opening, dataCheck, endCheck}
 use Rattle.tc_sparkle_aead.specs.Engine.{zeros, noMac}
 use Rattle.tc_sparkle_aead.specs.Calls.{beginData, written, dataBy, dataOutBy, dataAnswer, processBytes, processBytesOut, sealLast, sealTag, openBlock, openLast, receivedTag, openTag, sealEnd, openEndBy, openEnd, openEndOutBy, finalBy, finalOutBy, finalAnswer, doFinal, doFinalOut, readable, macOf, stepsNow}
 use Rattle.tc_sparkle_aead.proofs.VariantLaws.{sizes}
+use Rattle.schwaemm.proofs.RoundTrip.{length-decrypt}
 use Rattle.claims.specs.Call.{Call, Left, step, Outcome, outcome}
 use Rattle.claims.specs.Reader.{Reader, heldOf, inPhase, readMessage, read}
-use Rattle.schwaemm.proofs.RoundTrip.{length-decrypt}
+use Rattle.claims.specs.Messages.{released, Writes, messageOf, SealEnd, OpenEnd, Ended}
 use Rattle.claims.proofs.Packets.{length-body}
 use Rattle.claims.proofs.Kept.{Follows, Fits, Standing, engineOf, openedMac}
-use Rattle.claims.proofs.Follows.{Takes, kept, inData, takes-enough, begun-data, takes-loaded, opening-verified, seal-engine, open-engine, data-answer, final-answer}
-use Rattle.claims.proofs.Accepted.{data-good, end-good, data-takes, end-takes, EndPassed, released, released-data, Writes, writes, message-writes, seal-bytes, seal-length, open-bytes, open-length, last-length, is-open, end-count, takes-opening}
+use Rattle.claims.proofs.Follows.{Takes, kept, inData, takes-enough, begun-data, takes-loaded, opening-verified}
+use Rattle.claims.proofs.Follows.{seal-engine, open-engine, data-answer, final-answer}
+use Rattle.claims.proofs.Accepted.{data-good, end-good, data-takes, end-takes, EndPassed, released-data, writes}
+use Rattle.claims.proofs.Accepted.{message-writes, seal-bytes, seal-length, open-bytes, open-length, last-length}
+use Rattle.claims.proofs.Accepted.{is-open, end-count, takes-opening}
 
 pub outcome-ok : (k : AeadResult) (n : ℕ) → outcome k ≡ Outcome.ok n → k ≡ Ok n
 outcome-ok (Ok m) n e = let z : m ≡ n = cc in ap Ok z
@@ -77,27 +81,10 @@ message-writes-next v e r w input out n o =
 
 -- ---- An end past its checks
 
--- The message of the data so far.
-unfoldable pub messageOf : Params → Reader → List ℕ
-messageOf p r = cond (opening (r .phase)) (decrypt p (r .key) (r .nonce) (r .header) (bodyOf p (r .body))) (r .body)
-
 wiped : (m n : ℕ) (out : List ℕ) → m ≡ n → written (zeros m) out ≡ zeros n ++ drop n out
 unfolding written zeros
 wiped m n out e =
     ap₂ (λ (i j : ℕ). zeros i ++ drop j out) e (length-replicate m 0 ∙ e)
-
--- its answer and what it writes, by the direction and on an opening by whether the tag is the specification's
-pub record SealEnd (v : SparkleVariant) (r : Reader) (out : List ℕ) (n : ℕ) (left : Left) : Type 0 where
-  pub outcome-is : left .outcome ≡ Outcome.ok n
-  pub bytes-are : Writes (released (paramsOf v) r) (seal (paramsOf v) (r .key) (r .nonce) (r .header) (r .body)) out
-      (left .buffer) n
-
-pub record OpenEnd (v : SparkleVariant) (r : Reader) (out : List ℕ) (n : ℕ) (good : Bool) (left : Left) : Type 0 where
-  pub outcome-is : left .outcome ≡ cond good (Outcome.ok n) (Outcome.no (6 ∷ []))
-  pub good-bytes : good ≡ true
-      → Writes (released (paramsOf v) r) (decrypt (paramsOf v) (r .key) (r .nonce) (r .header)
-      (bodyOf (paramsOf v) (r .body))) out (left .buffer) n
-  pub bad-bytes : good ≡ false → left .buffer ≡ zeros n ++ drop n out
 
 module _ (v : SparkleVariant) (loaded : Bool) (key nonce initial header body : List ℕ) (mac : Mac) (c : ℕ)
     (f : loaded ≡ true → Fits (paramsOf v) key nonce) (out : List ℕ) (n : ℕ) where
@@ -251,13 +238,6 @@ module _ (v : SparkleVariant) (r : Reader) (mac : Mac) (c : ℕ) (f : r .loaded 
         (r .header) (r .body) mac c st)
         ∙ open-engine v (r .loaded) (r .key) (r .nonce) (r .initial) f l (r .header) (r .body)
         (takes-enough (paramsOf v) (sizes v) t (r .key) (r .nonce) (r .header) (r .body) (length out) n passed) n
-
--- The tag and the steps of an end past its checks: a sealing's data is its message, an opening's what its packet
--- decrypts to.
-pub record Ended (v : SparkleVariant) (r : Reader) (good : Bool) (e : SparkleEngine) : Type 0 where
-  pub mac-is : macOf e
-      ≡ cond good (readable (tag (paramsOf v) (r .key) (r .nonce) (r .header) (messageOf (paramsOf v) r))) noMac
-  pub steps-are : stepsNow e ≡ steps (paramsOf v) (length (r .header)) (length (messageOf (paramsOf v) r)) % 2 ^ 64
 
 mac-shown : (good : Bool) (t : List ℕ) (e : SparkleEngine) → e .mac ≡ cond good (readable t) noMac → macOf e
     ≡ cond good (readable t) noMac

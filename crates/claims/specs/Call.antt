@@ -15,7 +15,8 @@ use Rattle.tc_sparkle_aead.specs.declared.engine.SparkleEngine.{SparkleEngine}
 use Rattle.tc_sparkle_aead.specs.Variant.{paramsOf}
 use Rattle.tc_sparkle_aead.specs.Refusals.{refusal, initRefusal}
 use Rattle.tc_sparkle_aead.specs.Engine.{newEngine, updateOutputLen, outputLen}
-use Rattle.tc_sparkle_aead.specs.Calls.{init, processAadBytes, processBytes, processBytesOut, doFinal, doFinalOut, macOf, stepsNow}
+use Rattle.tc_sparkle_aead.specs.Calls.{init, processAadBytes, processBytes, processBytesOut, doFinal, doFinalOut, macOf}
+use Rattle.tc_sparkle_aead.specs.Calls.{stepsNow}
 use Rattle.tc_sparkle_aead.specs.Calls.{reset as resetEngine}
 
 -- A call with its arguments; an output buffer with its contents before the call.

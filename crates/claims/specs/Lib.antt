@@ -1,3 +1,9 @@
--- Lists of calls, their sheets, and the plain reader of document 01, "Two lists, two sheets".
+-- Lists of calls and their sheets, the plain reader of document 01, "Two lists, two sheets", and the words in which the
+-- claims are stated.
 pub mod Call
 pub mod Reader
+pub mod Messages
+pub mod Refused
+pub mod Machine
+pub mod Rejected
+pub mod Worked

@@ -1,6 +1,6 @@
 -- The plain reader of document 01, "Two lists, two sheets": it is fed the variant and the calls' arguments, no answers and
 -- nothing of the engine, and notes a verdict at each call. It shares the tables of checks with the engine.
-use Prim.Native.Nat.{ℕ, _+_, _-_, _*_}
+use Prim.Native.Nat.{ℕ, _-_, _*_}
 use mathlib.Core.Bool.{Bool, true, false, cond}
 use mathlib.Core.List.{List, [], _∷_, _++_}
 use lib.ListN.{length}
@@ -15,7 +15,8 @@ use Rattle.tc_sparkle_aead.specs.declared.phase.Phase.the-variants.{Uninitializ
 use Rattle.tc_sparkle_aead.specs.declared.aead_error.AeadResult.{AeadResult}
 use Rattle.tc_sparkle_aead.specs.declared.aead_error.AeadResult.the-variants.{Ok, Err}
 use Rattle.tc_sparkle_aead.specs.declared.aead_init_error.AeadInitError.{AeadInitError}
-use Rattle.tc_sparkle_aead.specs.declared.aead_init_error.AeadInitError.the-variants.{InvalidKeyLength, InvalidNonceLength, InvalidMacSize, NonceReuse}
+use Rattle.tc_sparkle_aead.specs.declared.aead_init_error.AeadInitError.the-variants.{InvalidKeyLength, InvalidNonceLength}
+use Rattle.tc_sparkle_aead.specs.declared.aead_init_error.AeadInitError.the-variants.{InvalidMacSize, NonceReuse}
 use Rattle.tc_sparkle_aead.specs.declared.aead_init_error.AeadInitResult.{AeadInitResult}
 use Rattle.tc_sparkle_aead.specs.declared.aead_init_error.AeadInitResult.the-variants.{Ok as StartOk, Err as StartErr}
 use Rattle.tc_sparkle_aead.specs.Variant.{paramsOf}
@@ -75,7 +76,7 @@ abbrev pub headerPhase : Direction → List ℕ → Phase
 headerPhase d [] = Init d
 headerPhase d (x ∷ header) = Aad d
 
--- In Data, h is d - r; 0 in the other phases.
+-- Document 01's d - r. The checks count it in Data alone (heldIn).
 abbrev pub heldOf : Params → Reader → ℕ
 heldOf p r =
     length (r .body) - ready (p .rate) (keep p (r .phase)) (length (r .body)) * p .rate

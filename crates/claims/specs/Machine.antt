@@ -2,26 +2,24 @@
 -- for are those of the plain reader, of which no machine knows.
 use mathlib.Core.Path.{_≡_}
 use mathlib.Core.Logic.{_↔_}
-use mathlib.Core.Bool.{Bool, true, false}
 use mathlib.Core.List.{List, [], _∷_, _++_, map}
 use Prim.Native.Nat.{ℕ, _+_, _-_, _*_, _%_, _^_}
 use lib.ListN.{length, take}
 use Rattle.schwaemm.specs.Blocks.{ready}
-use Rattle.schwaemm.specs.Schwaemm.{Params, verified, seal, decrypt, body, leading, stepsOf, steps}
+use Rattle.schwaemm.specs.Schwaemm.{Params, seal, decrypt, body as bodyOf, leading, stepsOf, steps}
 use Rattle.tc_sparkle_aead.specs.declared.variant.SparkleVariant.{SparkleVariant}
 use Rattle.tc_sparkle_aead.specs.declared.phase.Direction.{Direction}
 use Rattle.tc_sparkle_aead.specs.declared.phase.Direction.the-variants.{Encrypt, Decrypt}
 use Rattle.tc_sparkle_aead.specs.declared.phase.Phase.{Phase}
 use Rattle.tc_sparkle_aead.specs.declared.phase.Phase.the-variants.{Uninitialized, Init, Aad, Data, Final}
-use Rattle.tc_sparkle_aead.specs.declared.aead_error.AeadResult.{AeadResult}
-use Rattle.tc_sparkle_aead.specs.declared.aead_error.AeadResult.the-variants.{Ok, Err}
 use Rattle.tc_sparkle_aead.specs.declared.engine.SparkleEngine.{SparkleEngine}
 use Rattle.tc_sparkle_aead.specs.Variant.{paramsOf}
-use Rattle.tc_sparkle_aead.specs.Checks.{opening, keep, updateLen, totalLen, aadCheck, dataCheck, endCheck, startCheck}
+use Rattle.tc_sparkle_aead.specs.Checks.{keep}
 use Rattle.tc_sparkle_aead.specs.Engine.{newEngine}
-use Rattle.claims.specs.Call.{Call, Alike, Outcome, outcome, startOutcome, step, Line, line}
-use Rattle.claims.specs.Call.Outcome.{ok, no}
-use Rattle.claims.specs.Reader.{Reader, newReader, heldOf, repeated, read, verdicts, reader}
+use Rattle.claims.specs.Call.{Call, Alike, step, Line, line}
+use Rattle.claims.specs.Call.Outcome.{ok}
+use Rattle.claims.specs.Reader.{Reader, newReader, read, verdicts, reader}
+use Rattle.claims.specs.Messages.{countOf, answerOf}
 
 -- ---- Machines
 
@@ -31,6 +29,7 @@ pub record Reply (State : Type 0) : Type 0 where
   pub line : Line
   pub buffer : List ℕ
 
+-- What takes the calls: its states, a new one of each variant, and what it gives for a call.
 pub record Machine : Type 1 where
   pub State : Type 0
   pub new : SparkleVariant → State
@@ -46,7 +45,7 @@ engine =
     }
 
 module _ (m : Machine) where
-  -- The state after a list of calls, the lines of the list, and the bytes that its calls wrote.
+  -- The state after a list of calls, and the lines of the list.
   abbrev pub after : m .State → List Call → m .State
   after s [] = s
   after s (c ∷ calls) = after (m .step s c .state) calls
@@ -58,39 +57,13 @@ module _ (m : Machine) where
   abbrev pub sheetOf : SparkleVariant → List Call → List Line
   sheetOf v calls = linesOf (m .new v) calls
 
--- The bytes that a call wrote: as many as it counts.
-abbrev pub wrote : Outcome → List ℕ → List ℕ
-wrote (ok n) buffer = take n buffer
-wrote (no r) buffer = []
-
+-- The bytes that the calls of a list wrote: of each as many as it counts.
 abbrev pub bytesOf : (m : Machine) → m .State → List Call → List ℕ
 bytesOf m s [] = []
-bytesOf m s (c ∷ calls) = wrote (m .step s c .line .outcome) (m .step s c .buffer) ++ bytesOf m (m .step s c .state) calls
+bytesOf m s (c ∷ calls) =
+    take (countOf (m .step s c .line .outcome)) (m .step s c .buffer) ++ bytesOf m (m .step s c .state) calls
 
 -- ---- Demand 2
-
--- The outcome that document 01's tables give to a call, over what the reader keeps; mac is not refused.
-abbrev pub openOutcome : Bool → ℕ → Outcome
-openOutcome true n = ok n
-openOutcome false n = no (6 ∷ [])
-
-abbrev pub endOutcome : AeadResult → Bool → Bool → Outcome
-endOutcome (Err x) opens right = outcome (Err x)
-endOutcome (Ok n) true right = openOutcome right n
-endOutcome (Ok n) false right = ok n
-
-unfoldable pub expected : Params → Reader → Call → Outcome
-expected p r (Call.start d key nonce size header) =
-    startOutcome (startCheck p d (length key) (length nonce) size (repeated r key nonce))
-expected p r (Call.header input) = outcome (aadCheck (r .phase) (length input))
-expected p r (Call.message input out) = outcome (dataCheck p (r .phase) (heldOf p r) (length input) (length out))
-expected p r (Call.end out) =
-    endOutcome (endCheck p (r .phase) (heldOf p r) (length out)) (opening (r .phase))
-    (verified p (r .key) (r .nonce) (r .header) (r .body))
-expected p r Call.reset = ok 0
-expected p r Call.tag = ok 0
-expected p r (Call.update n) = outcome (updateLen p (r .phase) (heldOf p r) n)
-expected p r (Call.output n) = outcome (totalLen p (r .phase) (heldOf p r) n)
 
 -- The steps that document 01's formula gives after a call, from the reader before and after it and the count before it:
 -- big, plus for the header and for the message what has run.
@@ -142,12 +115,12 @@ abbrev pub dataCalls : List Piece → List ℕ → List Call
 dataCalls [] out = Call.end out ∷ []
 dataCalls (x ∷ pieces) out = Call.message (x .input) (x .out) ∷ dataCalls pieces out
 
-abbrev pub messageOf : List Piece → List ℕ
-messageOf [] = []
-messageOf (x ∷ pieces) = x .input ++ messageOf pieces
+abbrev pub joined : List Piece → List ℕ
+joined [] = []
+joined (x ∷ pieces) = x .input ++ joined pieces
 
-abbrev pub messageCalls : Direction → (key nonce header : List ℕ) (size : ℕ) → List Piece → List ℕ → List Call
-messageCalls d key nonce header size pieces out = Call.start d key nonce size header ∷ dataCalls pieces out
+abbrev pub pieceCalls : Direction → (key nonce header : List ℕ) (size : ℕ) → List Piece → List ℕ → List Call
+pieceCalls d key nonce header size pieces out = Call.start d key nonce size header ∷ dataCalls pieces out
 
 pub data AllOk : List Line → Type 0 where
   none : AllOk []
@@ -156,17 +129,17 @@ pub data AllOk : List Line → Type 0 where
 pub record Demand2 (m : Machine) : Type 0 where
   -- every call after every list is answered as the tables say
   pub answers : (v : SparkleVariant) (before : List Call) (c : Call) → (c ≡ Call.tag → ⊥)
-      → m .step (after m (m .new v) before) c .line .outcome ≡ expected (paramsOf v) (reader v before) c
+      → m .step (after m (m .new v) before) c .line .outcome ≡ answerOf (paramsOf v) (reader v before) c
   -- however the data is cut, a sealing without refusal writes what the specification gives
   pub seals : (v : SparkleVariant) (key nonce header : List ℕ) (size : ℕ) (pieces : List Piece) (out : List ℕ)
-      → AllOk (sheetOf m v (messageCalls Encrypt key nonce header size pieces out))
-      → bytesOf m (m .new v) (messageCalls Encrypt key nonce header size pieces out)
-      ≡ seal (paramsOf v) key nonce header (messageOf pieces)
+      → AllOk (sheetOf m v (pieceCalls Encrypt key nonce header size pieces out))
+      → bytesOf m (m .new v) (pieceCalls Encrypt key nonce header size pieces out)
+      ≡ seal (paramsOf v) key nonce header (joined pieces)
   -- and an opening what the packet, without its tag, decrypts to
   pub opens : (v : SparkleVariant) (key nonce header : List ℕ) (size : ℕ) (pieces : List Piece) (out : List ℕ)
-      → AllOk (sheetOf m v (messageCalls Decrypt key nonce header size pieces out))
-      → bytesOf m (m .new v) (messageCalls Decrypt key nonce header size pieces out)
-      ≡ decrypt (paramsOf v) key nonce header (body (paramsOf v) (messageOf pieces))
+      → AllOk (sheetOf m v (pieceCalls Decrypt key nonce header size pieces out))
+      → bytesOf m (m .new v) (pieceCalls Decrypt key nonce header size pieces out)
+      ≡ decrypt (paramsOf v) key nonce header (bodyOf (paramsOf v) (joined pieces))
   -- the steps of every line are the formula's
   pub counted : (v : SparkleVariant) (calls : List Call)
       → map (λ (l : Line). l .steps) (sheetOf m v calls) ≡ counts (paramsOf v) newReader 0 calls

@@ -1,0 +1,388 @@
+-- What is claimed of the engine: every statement in full, each with the sentence of docs/00-demands.md that it renders. The
+-- words stand in specs/; the proofs stand in the other files here and are cited.
+--
+-- `step e c` is what a call's contract says of the call (specs/Call.antt); `run v calls` is the engine after a list of
+-- calls from a new engine of variant v, refused calls included; `reader v calls` is what the plain reader of document 01,
+-- "Two lists, two sheets", keeps of the same list (specs/Reader.antt).
+use mathlib.Core.Path.{_≡_}
+use mathlib.Core.Logic.{_↔_}
+use mathlib.Core.Bool.{true, false, cond}
+use mathlib.Core.List.{List, [], _∷_, _++_, map}
+use Prim.Native.Nat.{ℕ, _+_, _-_, _%_, _^_, _≤_, _<_}
+use lib.ListN.{length, take}
+use Rattle.schwaemm.specs.Schwaemm.{seal, decrypt, tag, body as bodyOf, verified, steps}
+use Rattle.tc_sparkle_aead.specs.declared.variant.SparkleVariant.{SparkleVariant}
+use Rattle.tc_sparkle_aead.specs.declared.variant.SparkleVariant.the-variants.{«Schwaemm128_128»}
+use Rattle.tc_sparkle_aead.specs.declared.phase.Direction.{Direction}
+use Rattle.tc_sparkle_aead.specs.declared.phase.Direction.the-variants.{Encrypt, Decrypt}
+use Rattle.tc_sparkle_aead.specs.declared.phase.Phase.the-variants.{Final}
+use Rattle.tc_sparkle_aead.specs.declared.aead_error.AeadResult.the-variants.{Ok}
+use Rattle.tc_sparkle_aead.specs.declared.engine.SparkleEngine.{SparkleEngine}
+use Rattle.tc_sparkle_aead.specs.Variant.{paramsOf}
+use Rattle.tc_sparkle_aead.specs.Checks.{opening, keep, endCheck}
+use Rattle.tc_sparkle_aead.specs.Engine.{newEngine}
+use Rattle.tc_sparkle_aead.specs.Calls.{readable, macOf, stepsNow}
+use Rattle.claims.specs.Call.{Call, Alike, step, Line, sheet, runFrom, run}
+use Rattle.claims.specs.Call.Outcome.{ok, no}
+use Rattle.claims.specs.Reader.{newReader, heldOf, repeated, read, reader, verdicts}
+use Rattle.claims.specs.Reader.Verdict.{Yes, No, None}
+use Rattle.claims.specs.Messages.{Each, outputs, headers, datas, HeaderCall, DataCall, messageCalls, Rooms, Ample}
+use Rattle.claims.specs.Messages.{Completes, Rejects, RoundTrip}
+use Rattle.claims.specs.Messages.{Betweens, takenHeader, takenData, begunEngine, OpenedUnrefused, Asked, answerOf}
+use Rattle.claims.specs.Messages.{released, Writes, finishedBytes, messageOf, OpenEndExact, Ended, Before, stepsBefore}
+use Rattle.claims.specs.Messages.{stepsAfterInit, Keeps}
+use Rattle.claims.specs.Refused.{Refused, OfStart, Unchanging, Numbered, Returned, Wiped, Unchanged, Failed, lent}
+use Rattle.claims.specs.Machine.{Machine, engine, after, counts, Demand2, Demand3}
+use Rattle.claims.specs.Rejected.{notInitialized, fixed, untouched, skipping, inventing, finalizing}
+use Rattle.claims.specs.Worked.{worked, row}
+use Rattle.claims.proofs.Demand1.{returned, eleven-numbers, refusals, start-wipes, start-number-leaves, six-leaves}
+use Rattle.claims.proofs.Demand1.{unchanging-number-leaves}
+use Rattle.claims.proofs.EngineMeets.{run-six-leaves, demand-3, demand-3-call-by-call, engine-demand-3}
+use Rattle.claims.proofs.Whole.{sealed-unrefused, opened-unrefused, returned-unrefused}
+use Rattle.claims.proofs.Messages.{sealed, rooms-ample, opened-sealed, opened, rejected}
+use Rattle.claims.proofs.Answers.{answers}
+use Rattle.claims.proofs.Demand2.{open-end-exact, mac-bytes, steps-before-end, end-tag-and-steps, end-accepted}
+use Rattle.claims.proofs.Demand2.{steps-reset, steps-new, steps-refused-start}
+use Rattle.claims.proofs.Demand2.{final-keeps-all, message-bytes, end-bytes, phase-is, held-at-most, held-at-most-64}
+use Rattle.claims.proofs.EngineCounts.{sheet-counted}
+use Rattle.claims.proofs.EngineSeals.{engine-demand-2}
+use Rattle.claims.proofs.Rejected.{notInitialized-fails-2, notInitialized-fails-3, fixed-fails-2, fixed-fails-3}
+use Rattle.claims.proofs.Rejected.{untouched-fails-2, untouched-engine-fails-2}
+use Rattle.claims.proofs.Rejected.{skipping-fails-2, skipping-engine-fails-2, inventing-fails-2, constant-steps-fail-2}
+use Rattle.claims.proofs.Rejected.{finalizing-fails-2, finalized-outside-fails-2}
+use Rattle.claims.proofs.WorkedSheet.{worked-sheet, worked-verdicts}
+
+-- ---- Demand 1
+--
+-- For every engine value, every call, every content and every length. That a call returns at all is its contract: every
+-- call of the engine has one, total and without `requires`.
+
+-- 1.1 "A call that comes with arbitrary contents and lengths, in any phase, returns: with its work done or with one of
+-- eleven refusals."
+pub work-done-or-one-of-eleven : (e : SparkleEngine) (c : Call) → Returned (step e c .outcome)
+work-done-or-one-of-eleven = returned
+
+pub refusals-are-the-eleven : (e : SparkleEngine) (c : Call) (r : List ℕ) → step e c .outcome ≡ no r → Numbered r
+refusals-are-the-eleven = eleven-numbers
+
+-- 1.1, which of the eleven: a number comes back exactly where its line of document 01's tables says.
+pub every-refusal-by-its-line : (e : SparkleEngine) (c : Call) (r : List ℕ) → (step e c .outcome ≡ no r) ↔ Refused e c r
+every-refusal-by-its-line = refusals
+
+-- 1.2 "A refused start leaves no message, but the last loaded key and nonce."
+pub refused-start-leaves-the-pair : (e : SparkleEngine) (d : Direction) (key nonce header r : List ℕ) (size : ℕ)
+    → step e (Call.start d key nonce size header) .outcome ≡ no r → Wiped e (Call.start d key nonce size header)
+refused-start-leaves-the-pair = start-wipes
+
+-- 1.2, by the number: 1, 2, 3 and 11 come of a start and leave the same.
+pub start-numbers-leave-the-pair : (e : SparkleEngine) (c : Call) (n : ℕ) (values : List ℕ) → OfStart n
+    → step e c .outcome ≡ no (n ∷ values) → Wiped e c
+start-numbers-leave-the-pair = start-number-leaves
+
+-- 1.3 "A failed tag ends the message and zeroes what that last call would have written." After every list of calls.
+pub failed-tag-ends-and-zeroes : (v : SparkleVariant) (calls : List Call) (c : Call) (values : List ℕ)
+    → step (run v calls) c .outcome ≡ no (6 ∷ values) → (out : List ℕ) × (c ≡ Call.end out) × Failed (run v calls) out
+failed-tag-ends-and-zeroes = run-six-leaves
+
+-- 1.3, for any engine value; the buffer in it is an array of 64 bytes.
+pub failed-tag-of-any-engine : (e : SparkleEngine) (c : Call) (values : List ℕ) → length (e .current .buffer) ≡ 64
+    → step e c .outcome ≡ no (6 ∷ values) → (out : List ℕ) × (c ≡ Call.end out) × Failed e out
+failed-tag-of-any-engine = six-leaves
+
+-- 1.4 "Each other refusal changes neither engine nor buffer." The others are 4, 5 and 7 to 10.
+pub other-refusals-change-nothing : (e : SparkleEngine) (c : Call) (n : ℕ) (values : List ℕ) → Unchanging n
+    → step e c .outcome ≡ no (n ∷ values) → Unchanged e c
+other-refusals-change-nothing = unchanging-number-leaves
+
+-- ---- Demand 2
+--
+-- For every variant, after every list of calls.
+
+-- 2.2 "Proved: however the data is cut, unrefused calls seal to what the Schwaemm specification gives." A start that is
+-- not refused, any calls between but a start, a reset and an end that ends the message, and an end that is not refused:
+-- the bytes written are the packet of the header and the data that were not refused.
+pub sealing-is-the-specifications : (v : SparkleVariant) (before : List Call) (key nonce : List ℕ) (size : ℕ)
+    (initial : List ℕ) (between : List Call) (out : List ℕ) (k n : ℕ)
+    → step (run v before) (Call.start Encrypt key nonce size initial) .outcome ≡ ok k
+    → Betweens (begunEngine v before Encrypt key nonce size initial) between
+    → step (runFrom (begunEngine v before Encrypt key nonce size initial) between) (Call.end out) .outcome ≡ ok n
+    → outputs (run v before) (Call.start Encrypt key nonce size initial ∷ (between ++ (Call.end out ∷ [])))
+    ≡ seal (paramsOf v) key nonce (initial ++ takenHeader (begunEngine v before Encrypt key nonce size initial) between)
+    (takenData (begunEngine v before Encrypt key nonce size initial) between)
+sealing-is-the-specifications = sealed-unrefused
+
+-- 2.2, and nothing is refused where the sizes are right, the pair is not the last loaded and each output has the length
+-- that its query answers; then tag and steps are the specification's too.
+pub sealing-with-room-is-accepted : (v : SparkleVariant) (before : List Call) (key nonce : List ℕ) (size : ℕ)
+    (initial : List ℕ) (hs ms : List Call) (out : List ℕ) → length key ≡ paramsOf v .key → length nonce ≡ paramsOf v .rate
+    → size ≡ paramsOf v .key → Each HeaderCall hs → Each DataCall ms → length (datas ms) < 2 ^ 64
+    → repeated (reader v before) key nonce ≡ false
+    → Rooms (run v before) (messageCalls Encrypt key nonce size initial hs ms out)
+    → Completes (run v before) (messageCalls Encrypt key nonce size initial hs ms out)
+    (seal (paramsOf v) key nonce (initial ++ headers hs) (datas ms))
+    (tag (paramsOf v) key nonce (initial ++ headers hs) (datas ms))
+    (steps (paramsOf v) (length (initial ++ headers hs)) (length (datas ms)) % 2 ^ 64)
+sealing-with-room-is-accepted = sealed
+
+-- The room asked for there and below: a data call's output of 64 bytes more than its input, an end's of 96.
+pub ample-outputs-have-room : (e : SparkleEngine) (calls : List Call) → Each Ample calls → Rooms e calls
+ample-outputs-have-room = rooms-ample
+
+-- 2.3 "Proved: opening that returns the message." The bytes that one list seals, handed to an opening under the same key,
+-- nonce and header, cut anyhow, come back as the data that was sealed.
+pub opening-returns-the-message : (v : SparkleVariant) (before after : List Call) (key nonce : List ℕ) (size : ℕ)
+    (initial initial' : List ℕ) (hs hs' ms ms' : List Call) (out out' : List ℕ) → length key ≡ paramsOf v .key
+    → length nonce ≡ paramsOf v .rate → size ≡ paramsOf v .key → Each HeaderCall hs → Each DataCall ms
+    → Each HeaderCall hs' → Each DataCall ms' → repeated (reader v before) key nonce ≡ false
+    → length (datas ms) < 2 ^ 64 → length (datas ms') < 2 ^ 64
+    → Rooms (run v before) (messageCalls Encrypt key nonce size initial hs ms out)
+    → Rooms (run v after) (messageCalls Decrypt key nonce size initial' hs' ms' out')
+    → initial' ++ headers hs' ≡ initial ++ headers hs
+    → datas ms' ≡ outputs (run v before) (messageCalls Encrypt key nonce size initial hs ms out)
+    → RoundTrip v before after (messageCalls Encrypt key nonce size initial hs ms out)
+    (messageCalls Decrypt key nonce size initial' hs' ms' out') (datas ms)
+opening-returns-the-message = opened-sealed
+
+-- 2.3, of unrefused calls in the sense of 2.2: where neither the sealing's start and end nor the opening's are refused, the
+-- sealed bytes come back as the data that was sealed.
+pub unrefused-opening-returns-the-message : (v : SparkleVariant) (before after : List Call) (key nonce : List ℕ)
+    (size size' : ℕ) (initial initial' : List ℕ) (between between' : List Call) (out out' : List ℕ) (k k' n n' : ℕ)
+    → step (run v before) (Call.start Encrypt key nonce size initial) .outcome ≡ ok k
+    → Betweens (begunEngine v before Encrypt key nonce size initial) between
+    → step (runFrom (begunEngine v before Encrypt key nonce size initial) between) (Call.end out) .outcome ≡ ok n
+    → step (run v after) (Call.start Decrypt key nonce size' initial') .outcome ≡ ok k'
+    → Betweens (begunEngine v after Decrypt key nonce size' initial') between'
+    → step (runFrom (begunEngine v after Decrypt key nonce size' initial') between') (Call.end out') .outcome ≡ ok n'
+    → initial' ++ takenHeader (begunEngine v after Decrypt key nonce size' initial') between'
+    ≡ initial ++ takenHeader (begunEngine v before Encrypt key nonce size initial) between
+    → takenData (begunEngine v after Decrypt key nonce size' initial') between'
+    ≡ outputs (run v before) (Call.start Encrypt key nonce size initial ∷ (between ++ (Call.end out ∷ [])))
+    → outputs (run v after) (Call.start Decrypt key nonce size' initial' ∷ (between' ++ (Call.end out' ∷ [])))
+    ≡ takenData (begunEngine v before Encrypt key nonce size initial) between
+unrefused-opening-returns-the-message = returned-unrefused
+
+-- 2.3, of any packet: an opening whose end is not refused had a verified packet, and wrote what its body decrypts to.
+pub opening-is-the-specifications : (v : SparkleVariant) (before : List Call) (key nonce : List ℕ) (size : ℕ)
+    (initial : List ℕ) (between : List Call) (out : List ℕ) (k n : ℕ)
+    → step (run v before) (Call.start Decrypt key nonce size initial) .outcome ≡ ok k
+    → Betweens (begunEngine v before Decrypt key nonce size initial) between
+    → step (runFrom (begunEngine v before Decrypt key nonce size initial) between) (Call.end out) .outcome ≡ ok n
+    → OpenedUnrefused v key nonce (initial ++ takenHeader (begunEngine v before Decrypt key nonce size initial) between)
+    (takenData (begunEngine v before Decrypt key nonce size initial) between)
+    (outputs (run v before) (Call.start Decrypt key nonce size initial ∷ (between ++ (Call.end out ∷ []))))
+opening-is-the-specifications = opened-unrefused
+
+-- 2.3, and a verified packet is accepted where the sizes are right and each output has the length that its query answers.
+pub opening-with-room-is-accepted : (v : SparkleVariant) (before : List Call) (key nonce : List ℕ) (size : ℕ)
+    (initial : List ℕ) (hs ms : List Call) (out : List ℕ) → length key ≡ paramsOf v .key → length nonce ≡ paramsOf v .rate
+    → size ≡ paramsOf v .key → Each HeaderCall hs → Each DataCall ms → length (datas ms) < 2 ^ 64
+    → Rooms (run v before) (messageCalls Decrypt key nonce size initial hs ms out)
+    → paramsOf v .key ≤ length (datas ms)
+    → verified (paramsOf v) key nonce (initial ++ headers hs) (datas ms) ≡ true
+    → Completes (run v before) (messageCalls Decrypt key nonce size initial hs ms out)
+    (decrypt (paramsOf v) key nonce (initial ++ headers hs) (bodyOf (paramsOf v) (datas ms)))
+    (tag (paramsOf v) key nonce (initial ++ headers hs)
+    (decrypt (paramsOf v) key nonce (initial ++ headers hs) (bodyOf (paramsOf v) (datas ms))))
+    (steps (paramsOf v) (length (initial ++ headers hs)) (length (datas ms) - paramsOf v .key) % 2 ^ 64)
+opening-with-room-is-accepted = opened
+
+-- 2.4 "Proved: a tag passes exactly when it is the specification's." After every list of calls, at an opening's end past
+-- its checks; `verified` says that the data's last bytes are the specification's tag for what the bytes before decrypt to.
+pub passes-exactly-when : (v : SparkleVariant) (calls : List Call) (out : List ℕ) (n : ℕ)
+    → opening (reader v calls .phase) ≡ true
+    → endCheck (paramsOf v) (reader v calls .phase) (heldOf (paramsOf v) (reader v calls)) (length out) ≡ Ok n
+    → OpenEndExact v (reader v calls) n (step (run v calls) (Call.end out) .outcome)
+passes-exactly-when = open-end-exact
+
+-- 2.4, of a whole message: where the packet is not verified, the end alone is refused, with 6.
+pub wrong-tag-is-rejected : (v : SparkleVariant) (before : List Call) (key nonce : List ℕ) (size : ℕ) (initial : List ℕ)
+    (hs ms : List Call) (out : List ℕ) → length key ≡ paramsOf v .key → length nonce ≡ paramsOf v .rate
+    → size ≡ paramsOf v .key → Each HeaderCall hs → Each DataCall ms → length (datas ms) < 2 ^ 64
+    → Rooms (run v before) (messageCalls Decrypt key nonce size initial hs ms out)
+    → paramsOf v .key ≤ length (datas ms)
+    → verified (paramsOf v) key nonce (initial ++ headers hs) (datas ms) ≡ false
+    → Rejects (run v before) (Call.start Decrypt key nonce size initial ∷ (hs ++ ms)) out
+    (steps (paramsOf v) (length (initial ++ headers hs)) (length (datas ms) - paramsOf v .key) % 2 ^ 64)
+wrong-tag-is-rejected = rejected
+
+-- 2.4, the tag that is shown: whenever one can be read, it is the specification's of the message.
+pub readable-tag-is-the-specifications : (v : SparkleVariant) (calls : List Call) → macOf (run v calls) .readable ≡ true
+    → macOf (run v calls)
+    ≡ readable (tag (paramsOf v) (reader v calls .key) (reader v calls .nonce) (reader v calls .header)
+    (messageOf (paramsOf v) (reader v calls)))
+readable-tag-is-the-specifications = mac-bytes
+
+-- 2.5 "Proved: the step count is the specification's." On every line of every sheet it is that of document 01's formula,
+-- which `counts` works out from the calls alone.
+pub steps-of-every-line : (v : SparkleVariant) (calls : List Call)
+    → map (λ (l : Line). l .steps) (sheet v calls) ≡ counts (paramsOf v) newReader 0 calls
+steps-of-every-line = sheet-counted
+
+-- 2.5, by the phase. Before the end: big for the start, and for header and data what
+-- has run.
+pub steps-are-the-formula : (v : SparkleVariant) (calls : List Call) → Before (reader v calls .phase)
+    → stepsNow (run v calls)
+    ≡ stepsBefore (paramsOf v) (reader v calls .phase) (reader v calls .header) (reader v calls .body) % 2 ^ 64
+steps-are-the-formula = steps-before-end
+
+-- 2.5, after an end past its checks: the steps of the whole message; and the tag, which after a failed one is none.
+pub steps-and-tag-after-an-end : (v : SparkleVariant) (calls : List Call) (out : List ℕ) (n : ℕ)
+    → endCheck (paramsOf v) (reader v calls .phase) (heldOf (paramsOf v) (reader v calls)) (length out) ≡ Ok n
+    → Ended v (reader v calls)
+    (cond (opening (reader v calls .phase))
+    (verified (paramsOf v) (reader v calls .key) (reader v calls .nonce) (reader v calls .header)
+    (reader v calls .body)) true)
+    (step (run v calls) (Call.end out) .engine)
+steps-and-tag-after-an-end = end-tag-and-steps
+
+-- 2.5, after an end that is not refused.
+pub steps-and-tag-after-an-accepted-end : (v : SparkleVariant) (calls : List Call) (out : List ℕ) (n : ℕ)
+    → step (run v calls) (Call.end out) .outcome ≡ ok n
+    → Ended v (reader v calls) true (step (run v calls) (Call.end out) .engine)
+steps-and-tag-after-an-accepted-end = end-accepted
+
+-- 2.5, after a reset, of a new engine, and after a refused start.
+pub steps-after-a-reset : (v : SparkleVariant) (calls : List Call)
+    → stepsNow (step (run v calls) Call.reset .engine)
+    ≡ stepsAfterInit (paramsOf v) (reader v calls .phase) (reader v calls .initial) % 2 ^ 64
+steps-after-a-reset = steps-reset
+
+pub steps-of-a-new-engine : (v : SparkleVariant) → stepsNow (newEngine v) ≡ 0
+steps-of-a-new-engine = steps-new
+
+pub steps-after-a-refused-start : (e : SparkleEngine) (d : Direction) (key nonce : List ℕ) (size : ℕ)
+    (header values : List ℕ) → step e (Call.start d key nonce size header) .outcome ≡ no values
+    → stepsNow (step e (Call.start d key nonce size header) .engine) ≡ 0
+steps-after-a-refused-start = steps-refused-start
+
+-- 2.5 and 2.4, until the next start or reset: in Final other calls change nothing.
+pub final-stays : (e : SparkleEngine) (d : Direction) → e .current .phase ≡ Final d → (calls : List Call)
+    → Each Keeps calls → runFrom e calls ≡ e
+final-stays = final-keeps-all
+
+-- 2.2 and 2.3, call by call: an accepted data call writes the specification's next bytes, and an accepted end the rest.
+pub data-call-writes-the-next-bytes : (v : SparkleVariant) (calls : List Call) (input out : List ℕ) (n : ℕ)
+    → step (run v calls) (Call.message input out) .outcome ≡ ok n
+    → Writes (released (paramsOf v) (reader v calls))
+    (released (paramsOf v) (read (paramsOf v) (reader v calls) (Call.message input out) .reader)) out
+    (step (run v calls) (Call.message input out) .buffer) n
+data-call-writes-the-next-bytes = message-bytes
+
+pub end-writes-the-rest : (v : SparkleVariant) (calls : List Call) (out : List ℕ) (n : ℕ)
+    → step (run v calls) (Call.end out) .outcome ≡ ok n
+    → Writes (released (paramsOf v) (reader v calls)) (finishedBytes (paramsOf v) (reader v calls)) out
+    (step (run v calls) (Call.end out) .buffer) n
+end-writes-the-rest = end-bytes
+
+-- The answers of every call but mac, after every list of calls, are those of document 01's tables over what the reader
+-- keeps; its phase is the engine's.
+pub answers-are-the-tables : (v : SparkleVariant) (calls : List Call) (c : Call) → Asked c
+    → step (run v calls) c .outcome ≡ answerOf (paramsOf v) (reader v calls) c
+answers-are-the-tables = answers
+
+pub phase-is-the-readers : (v : SparkleVariant) (calls : List Call)
+    → run v calls .current .phase ≡ reader v calls .phase
+phase-is-the-readers = phase-is
+
+-- No more is held than a block, on an opening a block and a tag; never more than 64 bytes.
+pub held-at-most-a-block : (v : SparkleVariant) (calls : List Call)
+    → run v calls .current .held ≤ keep (paramsOf v) (reader v calls .phase) + paramsOf v .rate
+held-at-most-a-block = held-at-most
+
+pub held-at-most-64-bytes : (v : SparkleVariant) (calls : List Call) → run v calls .current .held ≤ 64
+held-at-most-64-bytes = held-at-most-64
+
+-- ---- Demand 3
+--
+-- 3.1 "Each call gets the engine as the last one left it, and nobody else writes it." So `lines` and `run` are defined.
+-- 3.2 "A verdict is, at a sealing start past its size checks, whether key and nonce equal those last loaded; at an
+-- opening's end past its checks, whether the received tag is the specification's." So `read` is defined.
+-- 3.3 "A sheet has each call's refusal or count, its numbers, its steps, and whether a tag can be read." So `Line` is.
+
+-- "Take any two lists of an engine's calls (start, header, data, end, reset, tag, both length queries), refused ones
+-- included, alike in calls, directions, numbers and buffer lengths, whatever the contents, each run from a new engine, both
+-- of one variant. Their answer sheets are equal exactly when their verdicts are, call by call."
+pub sheets-equal-exactly-when-verdicts : (v : SparkleVariant) (xs ys : List Call) → Alike xs ys
+    → (sheet v xs ≡ sheet v ys) ↔ (verdicts v xs ≡ verdicts v ys)
+sheets-equal-exactly-when-verdicts = demand-3
+
+-- "call by call": the same of the first k calls, for every k.
+pub first-lines-equal-exactly-when-verdicts : (v : SparkleVariant) (k : ℕ) (xs ys : List Call) → Alike xs ys
+    → (take k (sheet v xs) ≡ take k (sheet v ys)) ↔ (take k (verdicts v xs) ≡ take k (verdicts v ys))
+first-lines-equal-exactly-when-verdicts = demand-3-call-by-call
+
+-- Document 01's list of calls for the program `sheet` has the sheet that is printed there, and these verdicts.
+pub sheet-worked-by-hand : sheet «Schwaemm128_128» worked
+    ≡ row (ok 0) 10 false
+    ∷ (row (ok 0) 17 false
+    ∷ (row (ok 32) 41 false
+    ∷ (row (no (9 ∷ [])) 41 false
+    ∷ (row (no (4 ∷ (17 ∷ (16 ∷ [])))) 41 false
+    ∷ (row (ok 17) 51 true ∷ (row (no (10 ∷ [])) 51 true ∷ (row (no (11 ∷ [])) 0 false ∷ [])))))))
+sheet-worked-by-hand = worked-sheet
+
+pub verdicts-worked-by-hand : verdicts «Schwaemm128_128» worked
+    ≡ No ∷ (None ∷ (None ∷ (None ∷ (None ∷ (None ∷ (None ∷ (Yes ∷ [])))))))
+verdicts-worked-by-hand = worked-verdicts
+
+-- ---- Engines that the demands reject
+--
+-- Demands 2 and 3 as predicates over anything that takes the calls (specs/Machine.antt). The engine meets both; each of
+-- the six that document 01's "Agreement" names (specs/Rejected.antt) fails one.
+
+pub the-engine-meets-demand-2 : Demand2 engine
+the-engine-meets-demand-2 = engine-demand-2
+
+pub the-engine-meets-demand-3 : Demand3 engine
+the-engine-meets-demand-3 = engine-demand-3
+
+-- One reporting NotInitialized to everything.
+pub not-initialized-fails-demand-2 : Demand2 notInitialized → ⊥
+not-initialized-fails-demand-2 = notInitialized-fails-2
+
+pub not-initialized-fails-demand-3 : Demand3 notInitialized → ⊥
+not-initialized-fails-demand-3 = notInitialized-fails-3
+
+-- One with a fixed sheet.
+pub fixed-sheet-fails-demand-2 : (f : ℕ → Line) (write : ℕ → Call → List ℕ) → Demand2 (fixed f write) → ⊥
+fixed-sheet-fails-demand-2 = fixed-fails-2
+
+pub fixed-sheet-fails-demand-3 : (f : ℕ → Line) (write : ℕ → Call → List ℕ) → Demand3 (fixed f write) → ⊥
+fixed-sheet-fails-demand-3 = fixed-fails-3
+
+-- One returning ok over untouched output: every machine of that kind, and the engine made so.
+pub leaving-output-untouched-fails-demand-2 : (m : Machine)
+    → ((s : m .State) (c : Call) → m .step s c .buffer ≡ lent c) → Demand2 m → ⊥
+leaving-output-untouched-fails-demand-2 = untouched-fails-2
+
+pub untouched-output-fails-demand-2 : Demand2 untouched → ⊥
+untouched-output-fails-demand-2 = untouched-engine-fails-2
+
+-- One sealing the first data call and skipping later ones: every machine of that kind, and the engine made so.
+pub skipping-later-data-fails-demand-2 : (m : Machine)
+    → ((s : m .State) (input out input' out' : List ℕ) (n : ℕ)
+    → m .step s (Call.message input out) .line .outcome ≡ ok n
+    → m .step (m .step s (Call.message input out) .state) (Call.message input' out') .state
+    ≡ m .step s (Call.message input out) .state)
+    → Demand2 m → ⊥
+skipping-later-data-fails-demand-2 = skipping-fails-2
+
+pub skipped-data-fails-demand-2 : Demand2 skipping → ⊥
+skipped-data-fails-demand-2 = skipping-engine-fails-2
+
+-- One inventing steps: the engine with more steps than it ran, and every machine with one count on each line.
+pub invented-steps-fail-demand-2 : (k : ℕ) → Demand2 (inventing k) → ⊥
+invented-steps-fail-demand-2 = inventing-fails-2
+
+pub one-count-on-each-line-fails-demand-2 : (m : Machine) (n : ℕ)
+    → ((s : m .State) (c : Call) → m .step s c .line .steps ≡ n) → Demand2 m → ⊥
+one-count-on-each-line-fails-demand-2 = constant-steps-fail-2
+
+-- One saying AlreadyFinalized outside Final: the engine made so, and every machine that does so once.
+pub finalized-at-data-fails-demand-2 : Demand2 finalizing → ⊥
+finalized-at-data-fails-demand-2 = finalizing-fails-2
+
+pub finalized-outside-final-fails-demand-2 : (m : Machine) (v : SparkleVariant) (before : List Call) (c : Call)
+    (values : List ℕ) → (c ≡ Call.tag → ⊥) → ((d : Direction) → reader v before .phase ≡ Final d → ⊥)
+    → m .step (after m (m .new v) before) c .line .outcome ≡ no (10 ∷ values) → Demand2 m → ⊥
+finalized-outside-final-fails-demand-2 = finalized-outside-fails-2

@@ -1,0 +1,336 @@
+-- What the claims of demands 1 and 2 say about lists of calls, in words of their own.
+use mathlib.Core.Path.{_≡_}
+use mathlib.Core.Logic.{_↔_}
+use mathlib.Core.Bool.{Bool, true, false, cond}
+use mathlib.Core.List.{List, [], _∷_, _++_}
+use Prim.Native.Nat.{ℕ, _+_, _*_, _%_, _^_, _≤_}
+use lib.ListN.{length, take, drop}
+use Rattle.schwaemm.specs.Blocks.{ready, given}
+use Rattle.schwaemm.specs.Schwaemm.{Params, crypt, prepared, messageBlock, seal, decrypt, tag, body as bodyOf, verified}
+use Rattle.schwaemm.specs.Schwaemm.{leading, stepsOf, steps}
+use Rattle.tc_sparkle_aead.specs.declared.variant.SparkleVariant.{SparkleVariant}
+use Rattle.tc_sparkle_aead.specs.declared.phase.Direction.{Direction}
+use Rattle.tc_sparkle_aead.specs.declared.phase.Phase.{Phase}
+use Rattle.tc_sparkle_aead.specs.declared.phase.Phase.the-variants.{Uninitialized, Init, Aad, Data, Final}
+use Rattle.tc_sparkle_aead.specs.declared.aead_error.AeadResult.{AeadResult}
+use Rattle.tc_sparkle_aead.specs.declared.aead_error.AeadResult.the-variants.{Ok, Err}
+use Rattle.tc_sparkle_aead.specs.declared.engine.SparkleEngine.{SparkleEngine}
+use Rattle.tc_sparkle_aead.specs.Variant.{paramsOf}
+use Rattle.tc_sparkle_aead.specs.Checks.{opening, keep, updateLen, totalLen, aadCheck, dataCheck, endCheck, startCheck}
+use Rattle.tc_sparkle_aead.specs.Engine.{zeros, noMac}
+use Rattle.tc_sparkle_aead.specs.Calls.{plainOf, readable, macOf, stepsNow}
+use Rattle.claims.specs.Call.{Call, Outcome, outcome, startOutcome, Left, step, runFrom, run}
+use Rattle.claims.specs.Reader.{Reader, heldOf, repeated}
+
+-- ---- Lists of calls
+
+-- Every call of a list.
+abbrev pub Each : (Call → Type 0) → List Call → Type 0
+Each P [] = Unit {0}
+Each P (c ∷ calls) = P c × Each P calls
+
+-- What a call wrote: its buffer up to the count that it answers.
+abbrev pub countOf : Outcome → ℕ
+countOf (Outcome.ok n) = n
+countOf (Outcome.no values) = 0
+
+unfoldable pub wrote : Left → List ℕ
+wrote l = take (countOf (l .outcome)) (l .buffer)
+
+-- What the calls of a list wrote, one after the other.
+unfoldable pub outputs : SparkleEngine → List Call → List ℕ
+outputs e [] = []
+outputs e (c ∷ calls) = wrote (step e c) ++ outputs (step e c .engine) calls
+
+-- What a header call and a data call bring.
+abbrev pub headerIn : Call → List ℕ
+headerIn (Call.start d key nonce size h) = []
+headerIn (Call.header input) = input
+headerIn (Call.message input out) = []
+headerIn (Call.end out) = []
+headerIn Call.reset = []
+headerIn Call.tag = []
+headerIn (Call.update n) = []
+headerIn (Call.output n) = []
+
+abbrev pub dataOf : Call → List ℕ
+dataOf (Call.start d key nonce size h) = []
+dataOf (Call.header input) = []
+dataOf (Call.message input out) = input
+dataOf (Call.end out) = []
+dataOf Call.reset = []
+dataOf Call.tag = []
+dataOf (Call.update n) = []
+dataOf (Call.output n) = []
+
+-- What the header calls and the data calls of a list bring.
+abbrev pub headers : List Call → List ℕ
+headers [] = []
+headers (c ∷ calls) = headerIn c ++ headers calls
+
+abbrev pub datas : List Call → List ℕ
+datas [] = []
+datas (c ∷ calls) = dataOf c ++ datas calls
+
+-- Header calls and data calls, with queries and mac between them.
+abbrev pub HeaderCall : Call → Type 0
+HeaderCall (Call.start d key nonce size h) = ⊥
+HeaderCall (Call.header input) = Unit {0}
+HeaderCall (Call.message input out) = ⊥
+HeaderCall (Call.end out) = ⊥
+HeaderCall Call.reset = ⊥
+HeaderCall Call.tag = Unit {0}
+HeaderCall (Call.update n) = Unit {0}
+HeaderCall (Call.output n) = Unit {0}
+
+abbrev pub DataCall : Call → Type 0
+DataCall (Call.start d key nonce size h) = ⊥
+DataCall (Call.header input) = ⊥
+DataCall (Call.message input out) = Unit {0}
+DataCall (Call.end out) = ⊥
+DataCall Call.reset = ⊥
+DataCall Call.tag = Unit {0}
+DataCall (Call.update n) = Unit {0}
+DataCall (Call.output n) = Unit {0}
+
+-- A message from start to end: header calls, then data calls, with queries and mac anywhere between.
+abbrev pub messageCalls : Direction → (key nonce : List ℕ) → ℕ → (initial : List ℕ) → List Call → List Call
+    → (out : List ℕ) → List Call
+messageCalls d key nonce size initial hs ms out = Call.start d key nonce size initial ∷ ((hs ++ ms) ++ (Call.end out ∷ []))
+
+-- ---- Room and acceptance
+
+-- An output has at least the length that the query answers.
+abbrev pub RoomFor : SparkleEngine → Call → Type 0
+RoomFor e (Call.start d key nonce size h) = Unit {0}
+RoomFor e (Call.header input) = Unit {0}
+RoomFor e (Call.message input out) = (n : ℕ) → step e (Call.update (length input)) .outcome ≡ Outcome.ok n → n ≤ length out
+RoomFor e (Call.end out) = (n : ℕ) → step e (Call.output 0) .outcome ≡ Outcome.ok n → n ≤ length out
+RoomFor e Call.reset = Unit {0}
+RoomFor e Call.tag = Unit {0}
+RoomFor e (Call.update n) = Unit {0}
+RoomFor e (Call.output n) = Unit {0}
+
+abbrev pub Rooms : SparkleEngine → List Call → Type 0
+Rooms e [] = Unit {0}
+Rooms e (c ∷ calls) = RoomFor e c × Rooms (step e c .engine) calls
+
+-- Ample outputs have room, whatever the engine: at most 64 bytes are held, and a tag has at most 32.
+abbrev pub Ample : Call → Type 0
+Ample (Call.start d key nonce size h) = Unit {0}
+Ample (Call.header input) = Unit {0}
+Ample (Call.message input out) = length input + 64 ≤ length out
+Ample (Call.end out) = 96 ≤ length out
+Ample Call.reset = Unit {0}
+Ample Call.tag = Unit {0}
+Ample (Call.update n) = Unit {0}
+Ample (Call.output n) = Unit {0}
+
+-- A call is accepted; of a query nothing is asked.
+abbrev pub Taken : Call → Outcome → Type 0
+Taken (Call.start d key nonce size h) o = (n : ℕ) × (o ≡ Outcome.ok n)
+Taken (Call.header input) o = (n : ℕ) × (o ≡ Outcome.ok n)
+Taken (Call.message input out) o = (n : ℕ) × (o ≡ Outcome.ok n)
+Taken (Call.end out) o = (n : ℕ) × (o ≡ Outcome.ok n)
+Taken Call.reset o = (n : ℕ) × (o ≡ Outcome.ok n)
+Taken Call.tag o = (n : ℕ) × (o ≡ Outcome.ok n)
+Taken (Call.update k) o = Unit {0}
+Taken (Call.output k) o = Unit {0}
+
+abbrev pub Accepts : SparkleEngine → List Call → Type 0
+Accepts e [] = Unit {0}
+Accepts e (c ∷ calls) = Taken c (step e c .outcome) × Accepts (step e c .engine) calls
+
+-- ---- Whole messages with room
+
+-- All of it is accepted and writes these bytes; afterwards this tag can be read, and so many steps have run.
+pub record Completes (e : SparkleEngine) (calls : List Call) (bytes tag : List ℕ) (count : ℕ) : Type 0 where
+  pub accepted : Accepts e calls
+  pub bytes-are : outputs e calls ≡ bytes
+  pub tag-is : macOf (runFrom e calls) ≡ readable tag
+  pub steps-are : stepsNow (runFrom e calls) ≡ count
+
+-- Up to the end all is accepted; the end answers 6, writes zeros, and leaves no tag to read.
+pub record Rejects (e : SparkleEngine) (calls : List Call) (out : List ℕ) (count : ℕ) : Type 0 where
+  pub accepted : Accepts e calls
+  pub outcome-is : step (runFrom e calls) (Call.end out) .outcome ≡ Outcome.no (6 ∷ [])
+  pub zeros-are : (n : ℕ) × (step (runFrom e calls) (Call.end out) .buffer ≡ zeros n ++ drop n out)
+  pub no-tag : macOf (step (runFrom e calls) (Call.end out) .engine) ≡ noMac
+  pub steps-are : stepsNow (step (runFrom e calls) (Call.end out) .engine) ≡ count
+
+-- What one list of calls seals, another opens: under the same key, nonce and header, with the sealed bytes for data, both
+-- cut anyhow and with room, both are accepted, and the opening writes the data that was sealed.
+pub record RoundTrip (v : SparkleVariant) (before after : List Call) (sealing opening : List Call)
+    (m : List ℕ) : Type 0 where
+  pub sealing-accepted : Accepts (run v before) sealing
+  pub opening-accepted : Accepts (run v after) opening
+  pub returned : outputs (run v after) opening ≡ m
+
+-- ---- Whole messages, of what was taken
+
+-- An answer of a check: not 6, which ends a message.
+abbrev pub RefusedByCheck : Outcome → Type 0
+RefusedByCheck o = (values : List ℕ) × (o ≡ Outcome.no values) × (values ≡ 6 ∷ [] → ⊥)
+
+-- Header calls, data calls, queries, mac, and ends that the checks refuse.
+abbrev pub Between : SparkleEngine → Call → Type 0
+Between e (Call.start d key nonce size h) = ⊥
+Between e (Call.header input) = Unit {0}
+Between e (Call.message input out) = Unit {0}
+Between e (Call.end out) = RefusedByCheck (step e (Call.end out) .outcome)
+Between e Call.reset = ⊥
+Between e Call.tag = Unit {0}
+Between e (Call.update n) = Unit {0}
+Between e (Call.output n) = Unit {0}
+
+abbrev pub Betweens : SparkleEngine → List Call → Type 0
+Betweens e [] = Unit {0}
+Betweens e (c ∷ calls) = Between e c × Betweens (step e c .engine) calls
+
+-- What of a list's header calls and data calls was taken: the inputs of those that were not refused.
+abbrev pub ifOk : Outcome → List ℕ → List ℕ
+ifOk (Outcome.ok n) l = l
+ifOk (Outcome.no values) l = []
+
+unfoldable pub takenHeader : SparkleEngine → List Call → List ℕ
+takenHeader e [] = []
+takenHeader e (c ∷ calls) = ifOk (step e c .outcome) (headerIn c) ++ takenHeader (step e c .engine) calls
+
+unfoldable pub takenData : SparkleEngine → List Call → List ℕ
+takenData e [] = []
+takenData e (c ∷ calls) = ifOk (step e c .outcome) (dataOf c) ++ takenData (step e c .engine) calls
+
+-- The engine after a start.
+abbrev pub begunEngine : SparkleVariant → List Call → Direction → (key nonce : List ℕ) → ℕ
+    → (initial : List ℕ) → SparkleEngine
+begunEngine v before d key nonce size initial = step (run v before) (Call.start d key nonce size initial) .engine
+
+-- An opening's end is taken only for a verified packet, and then its calls give what the packet's body decrypts to.
+pub record OpenedUnrefused (v : SparkleVariant) (key nonce header packet bytes : List ℕ) : Type 0 where
+  pub verifies : verified (paramsOf v) key nonce header packet ≡ true
+  pub bytes-are : bytes ≡ decrypt (paramsOf v) key nonce header (bodyOf (paramsOf v) packet)
+
+-- ---- The answers
+
+-- What is asked: every call but mac.
+abbrev pub Asked : Call → Type 0
+Asked (Call.start d key nonce size h) = Unit {0}
+Asked (Call.header input) = Unit {0}
+Asked (Call.message input out) = Unit {0}
+Asked (Call.end out) = Unit {0}
+Asked Call.reset = Unit {0}
+Asked Call.tag = ⊥
+Asked (Call.update n) = Unit {0}
+Asked (Call.output n) = Unit {0}
+
+-- An end: its refusal, or on an opening 6 where the packet is not verified, or its count.
+abbrev pub openOutcome : Bool → ℕ → Outcome
+openOutcome true n = Outcome.ok n
+openOutcome false n = Outcome.no (6 ∷ [])
+
+abbrev pub endOutcome : AeadResult → (opens right : Bool) → Outcome
+endOutcome (Err x) opens right = outcome (Err x)
+endOutcome (Ok n) true right = openOutcome right n
+endOutcome (Ok n) false right = Outcome.ok n
+
+-- The outcome that document 01's tables give to a call, over what the reader keeps; mac is not refused.
+unfoldable pub answerOf : Params → Reader → Call → Outcome
+answerOf p r (Call.start d key nonce size h) =
+    startOutcome (startCheck p d (length key) (length nonce) size (repeated r key nonce))
+answerOf p r (Call.header input) = outcome (aadCheck (r .phase) (length input))
+answerOf p r (Call.message input out) = outcome (dataCheck p (r .phase) (heldOf p r) (length input) (length out))
+answerOf p r (Call.end out) =
+    endOutcome (endCheck p (r .phase) (heldOf p r) (length out)) (opening (r .phase))
+    (verified p (r .key) (r .nonce) (r .header) (r .body))
+answerOf p r Call.reset = Outcome.ok 0
+answerOf p r Call.tag = Outcome.ok 0
+answerOf p r (Call.update n) = outcome (updateLen p (r .phase) (heldOf p r) n)
+answerOf p r (Call.output n) = outcome (totalLen p (r .phase) (heldOf p r) n)
+
+-- ---- Call by call: the bytes, the tag and the steps
+
+-- The bytes that the specification gives, before the end, for the data so far.
+unfoldable pub released : Params → Reader → List ℕ
+released p r =
+    given (p .rate) (messageBlock p (plainOf p (r .phase))) (crypt p)
+    (ready (p .rate) (keep p (r .phase)) (length (r .body)))
+    (prepared p (r .key) (r .nonce) (r .header)) (r .body)
+
+-- A call that takes the bytes so far, `before`, to `after`, by the n bytes that it writes into the buffer that was lent as
+-- `out`; the rest of the buffer is as lent.
+pub record Writes (before after out buffer : List ℕ) (n : ℕ) : Type 0 where
+  pub bytes : after ≡ before ++ take n buffer
+  pub rest : drop n buffer ≡ drop n out
+  pub length-same : length buffer ≡ length out
+
+-- The bytes of a whole message: sealing, the packet; opening, what the packet decrypts to.
+unfoldable pub finishedBytes : Params → Reader → List ℕ
+finishedBytes p r =
+    cond (opening (r .phase)) (decrypt p (r .key) (r .nonce) (r .header) (bodyOf p (r .body)))
+    (seal p (r .key) (r .nonce) (r .header) (r .body))
+
+-- The message of the data so far.
+unfoldable pub messageOf : Params → Reader → List ℕ
+messageOf p r = cond (opening (r .phase)) (decrypt p (r .key) (r .nonce) (r .header) (bodyOf p (r .body))) (r .body)
+
+-- What an end past its checks answers and writes: a sealing's, and an opening's, by whether the packet is verified.
+pub record SealEnd (v : SparkleVariant) (r : Reader) (out : List ℕ) (n : ℕ) (left : Left) : Type 0 where
+  pub outcome-is : left .outcome ≡ Outcome.ok n
+  pub bytes-are : Writes (released (paramsOf v) r) (seal (paramsOf v) (r .key) (r .nonce) (r .header) (r .body)) out
+      (left .buffer) n
+
+pub record OpenEnd (v : SparkleVariant) (r : Reader) (out : List ℕ) (n : ℕ) (good : Bool) (left : Left) : Type 0 where
+  pub outcome-is : left .outcome ≡ cond good (Outcome.ok n) (Outcome.no (6 ∷ []))
+  pub good-bytes : good ≡ true
+      → Writes (released (paramsOf v) r) (decrypt (paramsOf v) (r .key) (r .nonce) (r .header)
+      (bodyOf (paramsOf v) (r .body))) out (left .buffer) n
+  pub bad-bytes : good ≡ false → left .buffer ≡ zeros n ++ drop n out
+
+-- An opening's end past its checks answers its count exactly when the packet is verified, and 6 exactly when it is not.
+pub record OpenEndExact (v : SparkleVariant) (r : Reader) (n : ℕ) (o : Outcome) : Type 0 where
+  pub accepted : (o ≡ Outcome.ok n) ↔ (verified (paramsOf v) (r .key) (r .nonce) (r .header) (r .body) ≡ true)
+  pub refused : (o ≡ Outcome.no (6 ∷ [])) ↔ (verified (paramsOf v) (r .key) (r .nonce) (r .header) (r .body) ≡ false)
+
+-- The tag and the steps of an end past its checks: a sealing's data is its message, an opening's what its packet
+-- decrypts to.
+pub record Ended (v : SparkleVariant) (r : Reader) (good : Bool) (e : SparkleEngine) : Type 0 where
+  pub mac-is : macOf e
+      ≡ cond good (readable (tag (paramsOf v) (r .key) (r .nonce) (r .header) (messageOf (paramsOf v) r))) noMac
+  pub steps-are : stepsNow e ≡ steps (paramsOf v) (length (r .header)) (length (messageOf (paramsOf v) r)) % 2 ^ 64
+
+-- Not in Final.
+abbrev pub Before : Phase → Type 0
+Before Uninitialized = Unit {0}
+Before (Init d) = Unit {0}
+Before (Aad d) = Unit {0}
+Before (Data d) = Unit {0}
+Before (Final d) = ⊥
+
+-- The specification's steps of what has run: with the start, the header's blocks but its last; in the data the whole
+-- header and the blocks that went.
+unfoldable pub stepsBefore : Params → Phase → (header body : List ℕ) → ℕ
+stepsBefore p Uninitialized header body = 0
+stepsBefore p (Init d) header body = p .big + leading p (length header) * p .slim
+stepsBefore p (Aad d) header body = p .big + leading p (length header) * p .slim
+stepsBefore p (Data d) header body =
+    p .big + stepsOf p (length header) + ready (p .rate) (keep p (Data d)) (length body) * p .slim
+stepsBefore p (Final d) header body = 0
+
+-- The count after init, to which every reset returns; 0 in Uninitialized.
+unfoldable pub stepsAfterInit : Params → Phase → (initial : List ℕ) → ℕ
+stepsAfterInit p Uninitialized initial = 0
+stepsAfterInit p (Init d) initial = p .big + leading p (length initial) * p .slim
+stepsAfterInit p (Aad d) initial = p .big + leading p (length initial) * p .slim
+stepsAfterInit p (Data d) initial = p .big + leading p (length initial) * p .slim
+stepsAfterInit p (Final d) initial = p .big + leading p (length initial) * p .slim
+
+-- Neither init nor reset.
+abbrev pub Keeps : Call → Type 0
+Keeps (Call.start d key nonce size h) = ⊥
+Keeps (Call.header input) = Unit {0}
+Keeps (Call.message input out) = Unit {0}
+Keeps (Call.end out) = Unit {0}
+Keeps Call.reset = ⊥
+Keeps Call.tag = Unit {0}
+Keeps (Call.update n) = Unit {0}
+Keeps (Call.output n) = Unit {0}

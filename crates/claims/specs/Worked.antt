@@ -1,0 +1,23 @@
+-- Document 01's list of calls for the program `sheet` ("Worked by hand").
+use mathlib.Core.Bool.{Bool}
+use mathlib.Core.List.{List, [], _∷_}
+use Prim.Native.Nat.{ℕ}
+use lib.ListN.{replicate}
+use Rattle.tc_sparkle_aead.specs.declared.phase.Direction.the-variants.{Encrypt}
+use Rattle.claims.specs.Call.{Call, Outcome, Line}
+
+-- A sealing start of variant 1 with key and nonce of zeros and no header.
+abbrev pub start : Call
+start = Call.start Encrypt (replicate 16 0) (replicate 16 0) 16 []
+
+abbrev pub worked : List Call
+worked =
+    start
+    ∷ (Call.header (replicate 20 0)
+    ∷ (Call.message (replicate 33 0) (replicate 32 0)
+    ∷ (Call.header (replicate 1 0)
+    ∷ (Call.end (replicate 16 0) ∷ (Call.end (replicate 17 0) ∷ (Call.message [] [] ∷ (start ∷ [])))))))
+
+-- A line of the sheet.
+abbrev pub row : Outcome → ℕ → Bool → Line
+row o n b = record { outcome = o; steps = n; readable = b }
