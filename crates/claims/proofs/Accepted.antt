@@ -43,7 +43,7 @@ pub record DataPassed (p : Params) (phase : Phase) (held k a n : ℕ) : Type 0 w
   pub count : n ≡ ready (p .rate) (keep p phase) (heldIn p phase held + k) * p .rate
   pub fits : n ≤ a
 
-pub within-good : (sum n k : ℕ) (b : Bool) → ltb sum (2 ^ 64) ≡ b
+within-good : (sum n k : ℕ) (b : Bool) → ltb sum (2 ^ 64) ≡ b
     → _≡_ {A = AeadResult} (cond b (Ok n) (Err InputTooLong)) (Ok k) → n ≡ k
 within-good sum n k true t e = cc
 within-good sum n k false t e = absurd (let z : _≡_ {A = ℕ} 0 1 = cc in omega arith)
@@ -69,7 +69,7 @@ pub record EndPassed (p : Params) (phase : Phase) (held a n : ℕ) : Type 0 wher
   pub count : n ≡ cond (opening phase) (heldIn p phase held - p .key) (heldIn p phase held + p .key)
   pub fits : n ≤ a
 
-pub total-good : (p : Params) (h k : ℕ) (b : Bool)
+total-good : (p : Params) (h k : ℕ) (b : Bool)
     → cond b (within64 (h + 0) (h + 0 - p .key)) (within64 (h + 0 + p .key) (h + 0 + p .key)) ≡ Ok k
     → k ≡ cond b (h - p .key) (h + p .key)
 total-good p h k true e =

@@ -8,7 +8,7 @@ use mathlib.Core.Path.{_≡_}
 use mathlib.Core.Logic.{_↔_}
 use mathlib.Core.Bool.{true, false, cond}
 use mathlib.Core.List.{List, [], _∷_, _++_, map}
-use Prim.Native.Nat.{ℕ, _+_, _-_, _%_, _^_, _≤_, _<_}
+use Prim.Native.Nat.{ℕ, _+_, _-_, _%_, _^_, _≤_}
 use lib.ListN.{length, take}
 use Rattle.schwaemm.specs.Schwaemm.{seal, decrypt, tag, body as bodyOf, verified, steps}
 use Rattle.tc_sparkle_aead.specs.declared.variant.SparkleVariant.{SparkleVariant}
@@ -111,11 +111,11 @@ pub sealing-is-the-specifications : (v : SparkleVariant) (before : List Call) (k
     (takenData (begunEngine v before Encrypt key nonce size initial) between)
 sealing-is-the-specifications = sealed-unrefused
 
--- 2.2, and nothing is refused where the sizes are right, the pair is not the last loaded and each output has the length
--- that its query answers; then tag and steps are the specification's too.
+-- 2.2, and nothing is refused where the sizes are right, the pair is not the last loaded, and each query answers a length
+-- that its output has at least; then tag and steps are the specification's too.
 pub sealing-with-room-is-accepted : (v : SparkleVariant) (before : List Call) (key nonce : List ℕ) (size : ℕ)
     (initial : List ℕ) (hs ms : List Call) (out : List ℕ) → length key ≡ paramsOf v .key → length nonce ≡ paramsOf v .rate
-    → size ≡ paramsOf v .key → Each HeaderCall hs → Each DataCall ms → length (datas ms) < 2 ^ 64
+    → size ≡ paramsOf v .key → Each HeaderCall hs → Each DataCall ms
     → repeated (reader v before) key nonce ≡ false
     → Rooms (run v before) (messageCalls Encrypt key nonce size initial hs ms out)
     → Completes (run v before) (messageCalls Encrypt key nonce size initial hs ms out)
@@ -124,17 +124,17 @@ pub sealing-with-room-is-accepted : (v : SparkleVariant) (before : List Call) (k
     (steps (paramsOf v) (length (initial ++ headers hs)) (length (datas ms)) % 2 ^ 64)
 sealing-with-room-is-accepted = sealed
 
--- The room asked for there and below: a data call's output of 64 bytes more than its input, an end's of 96.
+-- The room asked for there and below: a data call's output of 64 bytes more than its input, these under 2^64, and an
+-- end's of 96.
 pub ample-outputs-have-room : (e : SparkleEngine) (calls : List Call) → Each Ample calls → Rooms e calls
 ample-outputs-have-room = rooms-ample
 
 -- 2.3 "Proved: opening that returns the message." The bytes that one list seals, handed to an opening under the same key,
--- nonce and header, cut anyhow, come back as the data that was sealed.
+-- nonce and header, cut anyhow, come back as the data that was sealed, where sizes, pair and outputs are as for 2.2.
 pub opening-returns-the-message : (v : SparkleVariant) (before after : List Call) (key nonce : List ℕ) (size : ℕ)
     (initial initial' : List ℕ) (hs hs' ms ms' : List Call) (out out' : List ℕ) → length key ≡ paramsOf v .key
     → length nonce ≡ paramsOf v .rate → size ≡ paramsOf v .key → Each HeaderCall hs → Each DataCall ms
     → Each HeaderCall hs' → Each DataCall ms' → repeated (reader v before) key nonce ≡ false
-    → length (datas ms) < 2 ^ 64 → length (datas ms') < 2 ^ 64
     → Rooms (run v before) (messageCalls Encrypt key nonce size initial hs ms out)
     → Rooms (run v after) (messageCalls Decrypt key nonce size initial' hs' ms' out')
     → initial' ++ headers hs' ≡ initial ++ headers hs
@@ -172,10 +172,11 @@ pub opening-is-the-specifications : (v : SparkleVariant) (before : List Call) (k
     (outputs (run v before) (Call.start Decrypt key nonce size initial ∷ (between ++ (Call.end out ∷ []))))
 opening-is-the-specifications = opened-unrefused
 
--- 2.3, and a verified packet is accepted where the sizes are right and each output has the length that its query answers.
+-- 2.3, and a verified packet is accepted where the sizes are right and each query answers a length that its output has at
+-- least.
 pub opening-with-room-is-accepted : (v : SparkleVariant) (before : List Call) (key nonce : List ℕ) (size : ℕ)
     (initial : List ℕ) (hs ms : List Call) (out : List ℕ) → length key ≡ paramsOf v .key → length nonce ≡ paramsOf v .rate
-    → size ≡ paramsOf v .key → Each HeaderCall hs → Each DataCall ms → length (datas ms) < 2 ^ 64
+    → size ≡ paramsOf v .key → Each HeaderCall hs → Each DataCall ms
     → Rooms (run v before) (messageCalls Decrypt key nonce size initial hs ms out)
     → paramsOf v .key ≤ length (datas ms)
     → verified (paramsOf v) key nonce (initial ++ headers hs) (datas ms) ≡ true
@@ -194,10 +195,11 @@ pub passes-exactly-when : (v : SparkleVariant) (calls : List Call) (out : List �
     → OpenEndExact v (reader v calls) n (step (run v calls) (Call.end out) .outcome)
 passes-exactly-when = open-end-exact
 
--- 2.4, of a whole message: where the packet is not verified, the end alone is refused, with 6.
+-- 2.4, of a whole message with such sizes and outputs: where the packet has a tag's bytes or more and is not verified, the
+-- end alone is refused, with 6.
 pub wrong-tag-is-rejected : (v : SparkleVariant) (before : List Call) (key nonce : List ℕ) (size : ℕ) (initial : List ℕ)
     (hs ms : List Call) (out : List ℕ) → length key ≡ paramsOf v .key → length nonce ≡ paramsOf v .rate
-    → size ≡ paramsOf v .key → Each HeaderCall hs → Each DataCall ms → length (datas ms) < 2 ^ 64
+    → size ≡ paramsOf v .key → Each HeaderCall hs → Each DataCall ms
     → Rooms (run v before) (messageCalls Decrypt key nonce size initial hs ms out)
     → paramsOf v .key ≤ length (datas ms)
     → verified (paramsOf v) key nonce (initial ++ headers hs) (datas ms) ≡ false

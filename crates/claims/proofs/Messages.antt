@@ -6,8 +6,7 @@ use Prim.Native.Nat.{ℕ, _+_, _-_, _*_, _%_, _^_, _≤_, _<_}
 use native.Mathlib.Nat.{div-mul-le-self}
 use native.Mathlib.Omega.{arith}
 use borrow.Author.Tests.{le-ltb}
-use lib.Dec.{ltb}
-use lib.ListN.{length, length-append}
+use lib.ListN.{length}
 use Rattle.schwaemm.specs.Blocks.{ready}
 use Rattle.schwaemm.specs.Schwaemm.{Params, Sizes, decrypt, seal, tag, steps, body as bodyOf, verified}
 use Rattle.schwaemm.proofs.Cut.{ready-bound}
@@ -39,7 +38,7 @@ use Rattle.claims.proofs.Packets.{length-body}
 use Rattle.claims.proofs.Kept.{Follows, Standing, engineOf}
 use Rattle.claims.proofs.Follows.{Takes, kept, follows-step, follows-from, follows-run, aad-some, header-answer}
 use Rattle.claims.proofs.Follows.{update-answer, total-answer}
-use Rattle.claims.proofs.Accepted.{within-good, total-good, takes-opening}
+use Rattle.claims.proofs.Accepted.{takes-opening}
 use Rattle.claims.proofs.Written.{outcome-ok, end-ended, message-outcome, seal-end, open-end}
 use Rattle.claims.proofs.Whole.{takes-message, Going, startedReader, start-outcome, lastReader, begun-follows}
 use Rattle.claims.proofs.Whole.{last-follows, last-going, sealed-taken, opened-taken}
@@ -182,14 +181,7 @@ takes-check Takes.takes-init = refl
 takes-check Takes.takes-aad = refl
 takes-check Takes.takes-data = refl
 
--- no more is held than has come, and at most a block and what is kept
-held-came : (p : Params) (phase : Phase) (held : ℕ) → heldIn p phase held ≤ held
-held-came p Uninitialized held = omega arith
-held-came p (Init d) held = omega arith
-held-came p (Aad d) held = omega arith
-held-came p (Data d) held = omega arith
-held-came p (Final d) held = omega arith
-
+-- at most a block and what is kept is held
 held-bound : (p : Params) (phase : Phase) (held : ℕ) → heldIn p phase held ≤ keep p phase + p .rate
 held-bound p Uninitialized held = omega arith
 held-bound p (Init d) held = omega arith
@@ -222,53 +214,47 @@ total-outcome v e r w k =
     ap (λ (x : SparkleEngine). outcome (outputLen x k)) (w .same-engine) ∙ ap outcome
     (total-answer v r (w .mac) (w .count) k)
 
-update-small : (v : SparkleVariant) (phase : Phase) (held n k : ℕ) → updateLen (paramsOf v) phase held n ≡ Ok k → k ≤ n + 64
-unfolding updateLen
-update-small v phase held n k e =
+-- the queries answer, whatever the engine: a sum that stays under 2^64, and the end's always
+update-answers : (v : SparkleVariant) (phase : Phase) (held k : ℕ) → k + 64 < 2 ^ 64
+    → (n : ℕ) × (updateLen (paramsOf v) phase held k ≡ Ok n) × (n ≤ k + 64)
+update-answers v phase held k fits =
     let p = paramsOf v in
     let h = heldIn p phase held in
-    let m = ready (p .rate) (keep p phase) (h + n) * p .rate in
-    omega (
-      arith,
-      within-good (h + n) m k (ltb (h + n) (2 ^ 64)) refl e,
-      ready-bound (p .rate) (keep p phase) (h + n),
-      held-bound p phase held,
-      keep-bound p phase,
-      small v .rate,
-      small v .key,
+    let few : h ≤ 64 = omega (arith, held-bound p phase held, keep-bound p phase, small v .rate, small v .key) in (
+      ready (p .rate) (keep p phase) (h + k) * p .rate,
+      updateLen-fits p phase held k (omega arith),
+      omega (arith, ready-bound (p .rate) (keep p phase) (h + k)),
     )
 
-pick-small : (b : Bool) (h t : ℕ) → cond b (h - t) (h + t) ≤ h + t
-pick-small true h t = omega arith
-pick-small false h t = omega arith
+total-answers : (v : SparkleVariant) (phase : Phase) (held : ℕ)
+    → (n : ℕ) × (totalLen (paramsOf v) phase held 0 ≡ Ok n) × (n ≤ 96)
+total-answers v phase held = by (opening phase) refl
+  where
+    few : heldIn (paramsOf v) phase held ≤ 64
+    few =
+        omega (arith, held-bound (paramsOf v) phase held, keep-bound (paramsOf v) phase, small v .rate, small v .key)
 
-total-small : (v : SparkleVariant) (phase : Phase) (held k : ℕ) → totalLen (paramsOf v) phase held 0 ≡ Ok k → k ≤ 96
-unfolding totalLen
-total-small v phase held k e =
-    let p = paramsOf v in
-    let h = heldIn p phase held in
-    omega (
-      arith,
-      total-good p h k (opening phase) e,
-      pick-small (opening phase) h (p .key),
-      held-bound p phase held,
-      keep-bound p phase,
-      small v .rate,
-      small v .key,
-    )
+    by : (b : Bool) → opening phase ≡ b → (n : ℕ) × (totalLen (paramsOf v) phase held 0 ≡ Ok n) × (n ≤ 96)
+    by true o =
+        let p = paramsOf v in
+        (heldIn p phase held + 0 - p .key, totalLen-opening p phase held 0 o (omega (arith, few)), omega (arith, few))
+    by false o =
+        let p = paramsOf v in (
+          heldIn p phase held + 0 + p .key,
+          totalLen-sealing p phase held 0 o (omega (arith, few, small v .key)),
+          omega (arith, few, small v .key),
+        )
 
 room-ample : (e : SparkleEngine) (c : Call) → Ample c → RoomFor e c
 unfolding step updateOutputLen outputLen
 room-ample e (Call.start d key nonce size h) a = tt
 room-ample e (Call.header input) a = tt
 room-ample e (Call.message input out) a =
-    λ n o. omega (
-      arith,
-      update-small (e .variant) (e .current .phase) (e .current .held) (length input) n
-          (outcome-ok _ n o),
-    )
+    let u = update-answers (e .variant) (e .current .phase) (e .current .held) (length input) (a .1) in
+    (u .0, ap outcome (u .1), omega (arith, u .2, a .0))
 room-ample e (Call.end out) a =
-    λ n o. omega (arith, total-small (e .variant) (e .current .phase) (e .current .held) n (outcome-ok _ n o))
+    let u = total-answers (e .variant) (e .current .phase) (e .current .held) in
+    (u .0, ap outcome (u .1), omega (arith, u .2, a))
 room-ample e Call.reset a = tt
 room-ample e Call.tag a = tt
 room-ample e (Call.update n) a = tt
@@ -280,15 +266,15 @@ rooms-ample e (c ∷ calls) a = (room-ample e c (a .0), rooms-ample (step e c .e
 
 -- what a data call with room answers
 message-passes : (v : SparkleVariant) (e : SparkleEngine) (r : Reader) → Follows v e r → {d : Direction} → Takes d (r .phase)
-    → (input out : List ℕ) → length (r .body) + length input < 2 ^ 64 → RoomFor e (Call.message input out)
+    → (input out : List ℕ) → RoomFor e (Call.message input out)
     → (n : ℕ) × (dataCheck (paramsOf v) (r .phase) (heldOf (paramsOf v) r) (length input) (length out) ≡ Ok n)
-message-passes v e r w t input out short enough =
+message-passes v e r w t input out enough =
     let p = paramsOf v in
     let k = length input in
     let h = heldOf p r in
-    let n = ready (p .rate) (keep p (r .phase)) (heldIn p (r .phase) h + k) * p .rate in
-    let u : updateLen p (r .phase) h k ≡ Ok n = updateLen-fits p (r .phase) h k (omega (arith, held-came p (r .phase) h)) in
-    (n, data-passes p t h k (length out) n u (enough n (update-outcome v e r w k ∙ ap outcome u)))
+    let n = enough .0 in
+    let u : updateLen p (r .phase) h k ≡ Ok n = outcome-ok _ n (sym (update-outcome v e r w k) ∙ enough .1) in
+    (n, data-passes p t h k (length out) n u (enough .2))
 
 -- what data calls leave
 record Carried (v : SparkleVariant) (e : SparkleEngine) (r : Reader) (calls : List Call) : Type 0 where
@@ -309,15 +295,14 @@ carried-more v e r c calls t h b q =
     }
 
 datas-taken : (v : SparkleVariant) (d : Direction) (e : SparkleEngine) (r : Reader) → Follows v e r → Takes d (r .phase)
-    → (calls : List Call) → Each DataCall calls → length (r .body) + length (datas calls) < 2 ^ 64 → Rooms e calls
+    → (calls : List Call) → Each DataCall calls → Rooms e calls
     → Carried v e r calls
 unfolding step read readFrom
-datas-taken v d e r w t [] b short rooms = record { taken = tt; header-is = refl; body-is = sym (append-nil (r .body)) }
-datas-taken v d e r w t (Call.start d' key nonce size h ∷ calls) b short rooms = absurd (b .0)
-datas-taken v d e r w t (Call.header input ∷ calls) b short rooms = absurd (b .0)
-datas-taken v d e r w t (Call.message input out ∷ calls) b short rooms =
-    let l = length-append input (datas calls) in
-    let q = message-passes v e r w t input out (omega arith) (rooms .0) in
+datas-taken v d e r w t [] b rooms = record { taken = tt; header-is = refl; body-is = sym (append-nil (r .body)) }
+datas-taken v d e r w t (Call.start d' key nonce size h ∷ calls) b rooms = absurd (b .0)
+datas-taken v d e r w t (Call.header input ∷ calls) b rooms = absurd (b .0)
+datas-taken v d e r w t (Call.message input out ∷ calls) b rooms =
+    let q = message-passes v e r w t input out (rooms .0) in
     let is = ap (λ (k : AeadResult). readMessage k r input .reader) (q .1) in
     let t' : Takes d (read (paramsOf v) r (Call.message input out) .reader .phase) =
     subst (λ (x : Reader). Takes d (x .phase)) (sym is) (takes-message t) in
@@ -326,19 +311,18 @@ datas-taken v d e r w t (Call.message input out ∷ calls) b short rooms =
     carried-more v e r (Call.message input out) calls
     (q .0, message-outcome v e r w input out ∙ ap outcome (q .1)) (ap (λ (x : Reader). x .header) is) body-is
     (datas-taken v d (step e (Call.message input out) .engine) (read (paramsOf v) r (Call.message input out) .reader)
-    (follows-step v e r w (Call.message input out)) t' calls (b .1)
-    (omega (arith, ap length body-is, length-append (r .body) input)) (rooms .1))
-datas-taken v d e r w t (Call.end out ∷ calls) b short rooms = absurd (b .0)
-datas-taken v d e r w t (Call.reset ∷ calls) b short rooms = absurd (b .0)
-datas-taken v d e r w t (Call.tag ∷ calls) b short rooms =
+    (follows-step v e r w (Call.message input out)) t' calls (b .1) (rooms .1))
+datas-taken v d e r w t (Call.end out ∷ calls) b rooms = absurd (b .0)
+datas-taken v d e r w t (Call.reset ∷ calls) b rooms = absurd (b .0)
+datas-taken v d e r w t (Call.tag ∷ calls) b rooms =
     carried-more v e r Call.tag calls (countOf (step e Call.tag .outcome), refl) refl (sym (append-nil (r .body)))
-    (datas-taken v d e r w t calls (b .1) short (rooms .1))
-datas-taken v d e r w t (Call.update n ∷ calls) b short rooms =
+    (datas-taken v d e r w t calls (b .1) (rooms .1))
+datas-taken v d e r w t (Call.update n ∷ calls) b rooms =
     carried-more v e r (Call.update n) calls tt refl (sym (append-nil (r .body)))
-    (datas-taken v d e r w t calls (b .1) short (rooms .1))
-datas-taken v d e r w t (Call.output n ∷ calls) b short rooms =
+    (datas-taken v d e r w t calls (b .1) (rooms .1))
+datas-taken v d e r w t (Call.output n ∷ calls) b rooms =
     carried-more v e r (Call.output n) calls tt refl (sym (append-nil (r .body)))
-    (datas-taken v d e r w t calls (b .1) short (rooms .1))
+    (datas-taken v d e r w t calls (b .1) (rooms .1))
 
 -- ---- The end
 
@@ -358,11 +342,9 @@ seal-passes : (v : SparkleVariant) (e : SparkleEngine) (r : Reader) → Follows 
 seal-passes v e r w t out enough =
     let p = paramsOf v in
     let h = heldOf p r in
-    let n = heldIn p (r .phase) h + 0 + p .key in
-    let u : totalLen p (r .phase) h 0 ≡ Ok n =
-    totalLen-sealing p (r .phase) h 0 (takes-opening t)
-    (omega (arith, held-bound p (r .phase) h, keep-bound p (r .phase), small v .rate, small v .key)) in
-    (n, end-passes p t h (length out) n u (enough n (total-outcome v e r w 0 ∙ ap outcome u)) (rw (takes-opening t)))
+    let n = enough .0 in
+    let u : totalLen p (r .phase) h 0 ≡ Ok n = outcome-ok _ n (sym (total-outcome v e r w 0) ∙ enough .1) in
+    (n, end-passes p t h (length out) n u (enough .2) (rw (takes-opening t)))
 
 whole-open : (p : Params) (phase : Phase) (held n : ℕ) → opening phase ≡ true → p .key ≤ heldIn p phase held
     → whole p phase held n ≡ Ok n
@@ -391,15 +373,13 @@ open-passes : (v : SparkleVariant) (e : SparkleEngine) (r : Reader) → Follows 
 open-passes v e r w t out enough tagged =
     let p = paramsOf v in
     let h = heldOf p r in
-    let n = heldIn p (r .phase) h + 0 - p .key in
-    let u : totalLen p (r .phase) h 0 ≡ Ok n =
-    totalLen-opening p (r .phase) h 0 (takes-opening t)
-    (omega (arith, held-bound p (r .phase) h, keep-bound p (r .phase), small v .rate, small v .key)) in
+    let n = enough .0 in
+    let u : totalLen p (r .phase) h 0 ≡ Ok n = outcome-ok _ n (sym (total-outcome v e r w 0) ∙ enough .1) in
     let k =
     takes-held p (sizes v) t (r .loaded) (r .key) (r .nonce) (r .initial) (r .header) (r .body) (w .mac) (w .count)
     (w .standing) tagged in (
       n,
-      end-passes p t h (length out) n u (enough n (total-outcome v e r w 0 ∙ ap outcome u))
+      end-passes p t h (length out) n u (enough .2)
           (whole-open p (r .phase) h n (takes-opening t) k),
     )
 
@@ -432,16 +412,16 @@ record Arrived (v : SparkleVariant) (d : Direction) (key nonce initial : List �
 
 arrived : (v : SparkleVariant) (d : Direction) (key nonce initial : List ℕ) (e : SparkleEngine)
     → Follows v e (startedReader d key nonce initial)
-    → (hs ms : List Call) → Each HeaderCall hs → Each DataCall ms → length (datas ms) < 2 ^ 64 → Rooms e (hs ++ ms)
+    → (hs ms : List Call) → Each HeaderCall hs → Each DataCall ms → Rooms e (hs ++ ms)
     → Arrived v d key nonce initial e hs ms
-arrived v d key nonce initial e w hs ms bh bm short rooms =
+arrived v d key nonce initial e w hs ms bh bm rooms =
     let p = paramsOf v in
     let r1 = startedReader d key nonce initial in
     let r2 = readFrom p r1 hs in
     let room = rooms-append e hs ms rooms in
     let hq = headers-taken v d e r1 w (start-heading d initial) hs bh in
     let dq = datas-taken v d (runFrom e hs) r2 (follows-from v e r1 w hs) (heading-takes (hq .heading)) ms bm
-    (omega (arith, ap length (hq .body-is))) (room .1) in
+    (room .1) in
     let is = read-append p r1 hs ms in
     record {
       taken = accepts-append e hs ms (hq .taken) (dq .taken);
@@ -453,7 +433,7 @@ module _ (v : SparkleVariant) (before : List Call) (key nonce : List ℕ) (size 
     (out : List ℕ)
     (key-fits : length key ≡ paramsOf v .key) (nonce-fits : length nonce ≡ paramsOf v .rate)
     (size-fits : size ≡ paramsOf v .key)
-    (bh : Each HeaderCall hs) (bm : Each DataCall ms) (short : length (datas ms) < 2 ^ 64) where
+    (bh : Each HeaderCall hs) (bm : Each DataCall ms) where
   between : (d : Direction) → Betweens (begunEngine v before d key nonce size initial) (hs ++ ms)
   between d = all-between (begunEngine v before d key nonce size initial) hs ms bh bm
 
@@ -484,7 +464,7 @@ module _ (v : SparkleVariant) (before : List Call) (key nonce : List ℕ) (size 
     ready-end : Arrived v d key nonce initial (begunEngine v before d key nonce size initial) hs ms
     ready-end =
         arrived v d key nonce initial (begunEngine v before d key nonce size initial)
-        (begun-follows v before d key nonce size initial (hs ++ ms) out 0 o (between d)) hs ms bh bm short (end-room .0)
+        (begun-follows v before d key nonce size initial (hs ++ ms) out 0 o (between d)) hs ms bh bm (end-room .0)
 
     end-follows : Follows v (runFrom (begunEngine v before d key nonce size initial) (hs ++ ms))
         (lastReader v d key nonce initial (hs ++ ms))
@@ -667,23 +647,22 @@ pub opened-sealed : (v : SparkleVariant) (before after : List Call) (key nonce :
     → length key ≡ paramsOf v .key → length nonce ≡ paramsOf v .rate → size ≡ paramsOf v .key
     → Each HeaderCall hs → Each DataCall ms → Each HeaderCall hs' → Each DataCall ms'
     → repeated (reader v before) key nonce ≡ false
-    → length (datas ms) < 2 ^ 64 → length (datas ms') < 2 ^ 64
     → Rooms (run v before) (messageCalls Encrypt key nonce size initial hs ms out)
     → Rooms (run v after) (messageCalls Decrypt key nonce size initial' hs' ms' out')
     → initial' ++ headers hs' ≡ initial ++ headers hs
     → datas ms' ≡ outputs (run v before) (messageCalls Encrypt key nonce size initial hs ms out)
     → RoundTrip v before after (messageCalls Encrypt key nonce size initial hs ms out)
     (messageCalls Decrypt key nonce size initial' hs' ms' out') (datas ms)
-opened-sealed v before after key nonce size initial initial' hs hs' ms ms' out out' kf nf sf bh bm bh' bm' fresh short short' rooms rooms' he de =
+opened-sealed v before after key nonce size initial initial' hs hs' ms ms' out out' kf nf sf bh bm bh' bm' fresh rooms rooms' he de =
     let p = paramsOf v in
     let H = initial ++ headers hs in
     let m = datas ms in
-    let s = sealed v before key nonce size initial hs ms out kf nf sf bh bm short fresh rooms in
+    let s = sealed v before key nonce size initial hs ms out kf nf sf bh bm fresh rooms in
     let packet : datas ms' ≡ seal p key nonce H m = de ∙ s .bytes-are in
     let tagged : p .key ≤ length (datas ms') = omega (arith, ap length packet, length-seal p (sizes v) key nonce H kf m) in
     let good : verified p key nonce (initial' ++ headers hs') (datas ms') ≡ true =
     ap₂ (λ (x y : List ℕ). verified p key nonce x y) he packet ∙ verified-seal p (sizes v) key nonce H kf m in
-    let q = opened v after key nonce size initial' hs' ms' out' kf nf sf bh' bm' short' rooms' tagged good in
+    let q = opened v after key nonce size initial' hs' ms' out' kf nf sf bh' bm' rooms' tagged good in
     record {
       sealing-accepted = s .accepted;
       opening-accepted = q .accepted;

@@ -3,7 +3,7 @@ use mathlib.Core.Path.{_≡_}
 use mathlib.Core.Logic.{_↔_}
 use mathlib.Core.Bool.{Bool, true, false, cond}
 use mathlib.Core.List.{List, [], _∷_, _++_}
-use Prim.Native.Nat.{ℕ, _+_, _*_, _%_, _^_, _≤_}
+use Prim.Native.Nat.{ℕ, _+_, _*_, _%_, _^_, _≤_, _<_}
 use lib.ListN.{length, take, drop}
 use Rattle.schwaemm.specs.Blocks.{ready, given}
 use Rattle.schwaemm.specs.Schwaemm.{Params, crypt, prepared, messageBlock, seal, decrypt, tag, body as bodyOf, verified}
@@ -100,12 +100,13 @@ messageCalls d key nonce size initial hs ms out = Call.start d key nonce size in
 
 -- ---- Room and acceptance
 
--- An output has at least the length that the query answers.
+-- The query answers a length, and the output has at least that length.
 abbrev pub RoomFor : SparkleEngine → Call → Type 0
 RoomFor e (Call.start d key nonce size h) = Unit {0}
 RoomFor e (Call.header input) = Unit {0}
-RoomFor e (Call.message input out) = (n : ℕ) → step e (Call.update (length input)) .outcome ≡ Outcome.ok n → n ≤ length out
-RoomFor e (Call.end out) = (n : ℕ) → step e (Call.output 0) .outcome ≡ Outcome.ok n → n ≤ length out
+RoomFor e (Call.message input out) =
+    (n : ℕ) × (step e (Call.update (length input)) .outcome ≡ Outcome.ok n) × (n ≤ length out)
+RoomFor e (Call.end out) = (n : ℕ) × (step e (Call.output 0) .outcome ≡ Outcome.ok n) × (n ≤ length out)
 RoomFor e Call.reset = Unit {0}
 RoomFor e Call.tag = Unit {0}
 RoomFor e (Call.update n) = Unit {0}
@@ -115,11 +116,12 @@ abbrev pub Rooms : SparkleEngine → List Call → Type 0
 Rooms e [] = Unit {0}
 Rooms e (c ∷ calls) = RoomFor e c × Rooms (step e c .engine) calls
 
--- Ample outputs have room, whatever the engine: at most 64 bytes are held, and a tag has at most 32.
+-- Ample outputs have room, whatever the engine: at most 64 bytes are held, and a tag has at most 32. The query answers a
+-- length only for a sum under 2^64; a lent slice is shorter than that, so with one for output the first part is enough.
 abbrev pub Ample : Call → Type 0
 Ample (Call.start d key nonce size h) = Unit {0}
 Ample (Call.header input) = Unit {0}
-Ample (Call.message input out) = length input + 64 ≤ length out
+Ample (Call.message input out) = (length input + 64 ≤ length out) × (length input + 64 < 2 ^ 64)
 Ample (Call.end out) = 96 ≤ length out
 Ample Call.reset = Unit {0}
 Ample Call.tag = Unit {0}

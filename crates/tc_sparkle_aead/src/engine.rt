@@ -372,7 +372,7 @@ pub(crate) fn data_in(e: SparkleEngine, input: &[u8], output: &mut [u8]) -> Spar
 
 // ---- the start
 
-// Whether a key and a nonce are the last loaded pair; all their bytes are looked at.
+// Whether a key and a nonce are the last loaded pair.
 pub(crate) fn repeats(variant: SparkleVariant, pair: Pair, key: &[u8], nonce: &[u8]) -> bool
     ensures { λ r. ⌜ r ≡ repeats (paramsOf variant) pair (now (key .entry)) (now (nonce .entry)) ⌝ }
 {
