@@ -1,8 +1,10 @@
 -- The lines of document 01, "Worked by hand", that are marked P, as one table on the definitions that the calls'
 -- contracts cite, and the one theorem that proves it.
-use mathlib.Core.Path.{_≡_, refl}
-use mathlib.Core.List.{[], _∷_}
+use mathlib.Core.Path.{_≡_, refl, ap}
+use mathlib.Core.List.{List, [], _∷_}
 use Prim.Native.Nat.{ℕ, zero-le, _-_, _^_}
+use native.Mathlib.Omega.{arith}
+use lib.ListN.{length}
 use borrow.Author.Tests.{le-ltb}
 use Rattle.sparkle.specs.Words.{ell, rotr}
 use Rattle.schwaemm.specs.Blocks.{ready}
@@ -10,7 +12,8 @@ use Rattle.schwaemm.specs.Schwaemm.{domain, leading, stepsOf, steps}
 use Rattle.tc_sparkle_aead.specs.Variant.{paramsOf}
 use Rattle.tc_sparkle_aead.specs.Refusals.{refusal}
 use Rattle.tc_sparkle_aead.specs.Checks.{updateLen, totalLen, endCheck}
-use Rattle.tc_sparkle_aead.specs.Engine.{noMessage, newEngine, updateOutputLen, outputLen}
+use Rattle.tc_sparkle_aead.specs.Engine.{noMessage, newEngine, repeats, updateOutputLen, outputLen}
+use Rattle.tc_sparkle_aead.specs.Calls.{streamed, headed, started, initBy, init, doFinal}
 use Rattle.tc_sparkle_aead.specs.declared.variant.SparkleVariant.{SparkleVariant}
 use Rattle.tc_sparkle_aead.specs.declared.variant.SparkleVariant.the-variants.{«Schwaemm128_128», «Schwaemm256_128», «Schwaemm192_192», «Schwaemm256_256»}
 use Rattle.tc_sparkle_aead.specs.declared.phase.Direction.the-variants.{Encrypt, Decrypt}
@@ -19,6 +22,8 @@ use Rattle.tc_sparkle_aead.specs.declared.phase.Phase.the-variants.{Unin
 use Rattle.tc_sparkle_aead.specs.declared.engine.SparkleEngine.{SparkleEngine}
 use Rattle.tc_sparkle_aead.specs.declared.aead_error.AeadError.the-variants.{CiphertextTooShort, InputTooLong}
 use Rattle.tc_sparkle_aead.specs.declared.aead_error.AeadResult.the-variants.{Ok, Err}
+use Rattle.tc_sparkle_aead.specs.declared.aead_init_error.AeadInitResult.{AeadInitResult}
+use Rattle.tc_sparkle_aead.proofs.CheckLaws.{startCheck-opening}
 
 -- An engine of a variant that stands in a phase, whatever else it holds.
 pub record In (v : SparkleVariant) (phase : Phase) (e : SparkleEngine) : Type 0 where
@@ -54,10 +59,39 @@ pub record WorkedExamples : Type 0 where
   pub steps-empty : steps (paramsOf «Schwaemm128_128») 0 0 ≡ 10
   pub steps-16-16 : steps (paramsOf «Schwaemm128_128») 16 16 ≡ 30
   pub steps-33-32 : steps (paramsOf «Schwaemm256_256») 33 32 ≡ 44
-  -- Opening, variant 1, header of 16, end: 5 with 16 and 0, into an output of any length.
-  pub end-too-short : (held available : ℕ)
-      → endCheck (paramsOf «Schwaemm128_128») (Aad Decrypt) held available ≡ Err (CiphertextTooShort 16 0)
+  -- Opening, variant 1, header of 16, end: 5 with 16 and 0, whatever the contents, into an output of any length.
+  pub end-too-short : (e : SparkleEngine) → In «Schwaemm128_128» (Aad Decrypt) e → (out : List ℕ)
+      → doFinal e out .answer ≡ Err (CiphertextTooShort 16 0)
+  pub end-after-init : (key nonce header out : List ℕ) → length key ≡ 16 → length nonce ≡ 16 → length header ≡ 16
+      → doFinal (init (newEngine «Schwaemm128_128») Decrypt key nonce 16 header .engine) out .answer
+      ≡ Err (CiphertextTooShort 16 0)
   pub end-too-short-number : refusal (CiphertextTooShort 16 0) ≡ 5 ∷ (16 ∷ (0 ∷ []))
+
+-- The end in opening Aad.
+ended-in-aad : (e : SparkleEngine) → In «Schwaemm128_128» (Aad Decrypt) e → (out : List ℕ)
+    → doFinal e out .answer ≡ Err (CiphertextTooShort 16 0)
+unfolding doFinal endCheck totalLen
+ended-in-aad e s out = rw (s .variant, s .phase-is, le-ltb (length out) 0 zero-le) refl
+
+-- An initial header of 16 bytes leads there.
+after-init : (key nonce header : List ℕ) → length key ≡ 16 → length nonce ≡ 16 → length header ≡ 16
+    → In «Schwaemm128_128» (Aad Decrypt) (init (newEngine «Schwaemm128_128») Decrypt key nonce 16 header .engine)
+unfolding init started headed streamed newEngine
+after-init key nonce [] k n h = absurd (omega arith)
+after-init key nonce (x ∷ header) k n h =
+    let p = paramsOf «Schwaemm128_128» in
+    let again = repeats p (newEngine «Schwaemm128_128» .pair) key nonce in
+    let taken = startCheck-opening p Decrypt (length key) (length nonce) 16 again k n refl refl in
+    record {
+      variant = ap (λ (r : AeadInitResult). initBy r (newEngine «Schwaemm128_128») Decrypt key nonce (x ∷ header) .engine .variant) taken;
+      phase-is =
+          ap (λ (r : AeadInitResult). initBy r (newEngine «Schwaemm128_128») Decrypt key nonce (x ∷ header) .engine .current .phase) taken;
+    }
+
+ended-after-init : (key nonce header out : List ℕ) → length key ≡ 16 → length nonce ≡ 16 → length header ≡ 16
+    → doFinal (init (newEngine «Schwaemm128_128») Decrypt key nonce 16 header .engine) out .answer
+    ≡ Err (CiphertextTooShort 16 0)
+ended-after-init key nonce header out k n h = ended-in-aad _ (after-init key nonce header k n h) out
 
 pub worked-examples : WorkedExamples
 unfolding ready updateLen totalLen endCheck noMessage newEngine updateOutputLen outputLen ell rotr domain leading stepsOf steps
@@ -82,6 +116,7 @@ worked-examples = record {
   steps-empty = refl;
   steps-16-16 = refl;
   steps-33-32 = refl;
-  end-too-short = λ held available. rw (le-ltb available 0 zero-le) refl;
+  end-too-short = ended-in-aad;
+  end-after-init = ended-after-init;
   end-too-short-number = refl;
 }
