@@ -1,0 +1,67 @@
+use mathlib.Core.Path.{_≡_, refl, ap, _∙_}
+use mathlib.Core.List.{_++_}
+use Prim.Native.Nat.{ℕ}
+use lib.ListN.{drop}
+use Rattle.tc_sparkle_aead.specs.declared.engine.Mac.{Mac}
+use Rattle.claims.specs.Call.{Call, Outcome, Left, step}
+use Rattle.host.specs.Reply.{replyOf}
+use Rattle.host.specs.CallList.{shown, shownCount}
+use Rattle.host.proofs.AnswerLaws.{answer-whole}
+use borrow.Author.Needs.{needs}
+use Rattle.host.proofs.call.mac.Statement.{statement}
+use Rattle.host.proofs.call.mac.Tie as tie
+use Rattle.host.proofs.call.mac.Reads as reads
+use Rattle.host.proofs.call.mac.Lts as lts
+use Rattle.host.proofs.call.count.Reads as count-reads
+use Rattle.host.proofs.call.put_head.Reads as put-head-reads
+use Rattle.host.proofs.call.put_tag.Reads as put-tag-reads
+use Rattle.host.proofs.call.tag_len.Reads as tag-len-reads
+use Rattle.tc_sparkle_aead.proofs.aead_cipher.mac.Reads as mac-reads
+
+-- src/call.rt:217:9
+mac-requires : tie.Need-mac-requires
+mac-requires c κs = search needs
+
+-- src/call.rt:219:5
+put-tag-requires : tie.Need-put-tag-requires
+put-tag-requires c κs = search needs
+
+-- src/call.rt:220:25
+tag-len-requires : tie.Need-tag-len-requires
+tag-len-requires c κs = search needs
+
+-- src/call.rt:220:19
+count-requires : tie.Need-count-requires
+count-requires c κs = search needs
+
+-- src/call.rt:220:5
+put-head-requires : tie.Need-put-head-requires
+put-head-requires c κs = search needs
+
+-- src/call.rt:212:1
+same-length : tie.Need-same-length
+same-length c = search needs
+
+-- src/call.rt:212:1
+returns : tie.Need-returns
+unfolding step shown shownCount
+returns c =
+    let a = c .before .before .before .before .before .before .before .before .before .before .before .before .before .args in
+    let reply : c .before .before .before .count .result ≡ replyOf (step (a .e) Call.tag .outcome) =
+    c .before .before .before .count .ensures ∙ ap (λ (n : ℕ). replyOf (Outcome.ok n)) (c .before .before .before .before .tag-len .ensures) in (
+      refl,
+      answer-whole (a .e) Call.tag (c .before .before .before .count .result) (a .e) _ _ (drop 66 (a .out .now)) reply refl (c .before .before .put-head .ensures)
+          (c .before .before .before .before .before .before .before .before .put-tag .ensures ∙ ap (λ (m : Mac). m .bytes ++ drop 66 (a .out .now)) (c .before .before .before .before .before .before .before .before .before .before .before .mac .ensures)),
+    )
+
+pub mac-spec : {M : Type 1} → statement M
+mac-spec =
+    tie.close
+    (tie.spec
+    mac-requires
+    put-tag-requires
+    tag-len-requires
+    count-requires
+    put-head-requires
+    same-length
+    returns)

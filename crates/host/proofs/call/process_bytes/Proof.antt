@@ -1,0 +1,141 @@
+use mathlib.Core.Path.{_≡_, refl, ap, ap₂, _∙_}
+use mathlib.Core.List.{List, _++_}
+use Prim.Native.Nat.{ℕ, _+_, _-_, _≤_}
+use native.Mathlib.Omega.{arith}
+use lib.ListN.{length, take, drop}
+use Rattle.tc_sparkle_aead.specs.declared.engine.Done.{Done}
+use Rattle.tc_sparkle_aead.specs.Calls.{processBytes, processBytesOut, macOf, stepsNow}
+use Rattle.claims.specs.Call.{Call, Left, step, outcome}
+use Rattle.host.specs.Reply.{replyOf}
+use Rattle.host.specs.CallList.{firstRun, thirdRun, shown, shownCount, answerHead}
+use Rattle.host.proofs.AnswerLaws.{first-part, length-third, third-lent, third-back, third-room, answer-whole}
+use borrow.Author.Needs.{needs}
+use Rattle.host.proofs.call.process_bytes.Statement.{statement}
+use Rattle.host.proofs.call.process_bytes.Tie as tie
+use Rattle.host.proofs.call.process_bytes.Reads as reads
+use Rattle.host.proofs.call.process_bytes.Lts as lts
+use Rattle.host.proofs.bytes.put.Reads as put-reads
+use Rattle.host.proofs.call.put_head.Reads as put-head-reads
+use Rattle.host.proofs.reply.reply_of.Reads as reply-of-reads
+use Rattle.tc_sparkle_aead.proofs.aead_cipher.process_bytes.Reads as process-bytes-reads
+
+-- src/call.rt:157:13
+add-b : tie.Need-add-b
+add-b c = search needs
+
+-- src/call.rt:158:13
+add-c : tie.Need-add-c
+add-c c = search needs
+
+-- src/call.rt:159:15
+add-end : tie.Need-add-end
+add-end c = search needs
+
+-- src/call.rt:160:25
+sub-put : tie.Need-sub-put
+sub-put c = search needs
+
+-- src/call.rt:160:25
+part-put-start : tie.Need-part-put-start
+part-put-start c = search needs
+
+-- src/call.rt:160:25
+part-put-end : tie.Need-part-put-end
+part-put-end c = search needs
+
+-- src/call.rt:160:5
+put-requires : tie.Need-put-requires
+put-requires c κs = search needs
+
+-- src/call.rt:161:43
+sub-process-bytes : tie.Need-sub-process-bytes
+sub-process-bytes c = search needs
+
+-- src/call.rt:161:43
+part-process-bytes-start : tie.Need-part-process-bytes-start
+part-process-bytes-start c = search needs
+
+-- src/call.rt:161:43
+part-process-bytes-end : tie.Need-part-process-bytes-end
+part-process-bytes-end c = search needs
+
+-- src/call.rt:161:56
+sub-process-bytes-2 : tie.Need-sub-process-bytes-2
+sub-process-bytes-2 c = search needs
+
+-- src/call.rt:161:56
+part-process-bytes-start-2 : tie.Need-part-process-bytes-start-2
+part-process-bytes-start-2 c = search needs
+
+-- src/call.rt:161:56
+part-process-bytes-end-2 : tie.Need-part-process-bytes-end-2
+part-process-bytes-end-2 c = search needs
+
+-- src/call.rt:161:9
+process-bytes-requires : tie.Need-process-bytes-requires
+process-bytes-requires c κs = search needs
+
+-- src/call.rt:164:19
+reply-of-requires : tie.Need-reply-of-requires
+reply-of-requires c κs = search needs
+
+-- src/call.rt:164:5
+put-head-requires : tie.Need-put-head-requires
+put-head-requires c κs =
+    let a = c .before .before .before .before .before .before .before .before .before .before .before .before .before .before .before .before .before .before .args in
+    third-room (a .h) (a .runs .now) (a .out .now) (c .before .before .before .before .before .before .before .before .before .before .put .last .0) (c .before .before .before .before .before .before .before .before .before .before .before .before .before .before .before .before .before .before .pre .0) (c .before .before .before .before .before .before .before .before .before .before .before .before .before .before .before .before .before .before .pre .1) (c .before .before .before .before .before .before .before .before .before .before .put .ensures) (c .before .before .before .before .before .process-bytes .last .1 .1 .0)
+
+-- src/call.rt:151:1
+same-length : tie.Need-same-length
+same-length c = search needs
+
+-- src/call.rt:151:1
+returns : tie.Need-returns
+unfolding step shown shownCount
+returns c =
+    let a = c .before .before .before .before .before .before .before .before .before .before .before .before .before .before .before .before .before .before .before .before .before .args in
+    let h = a .h in
+    let runs = a .runs .now in
+    let out = a .out .now in
+    let put = c .before .before .before .before .before .before .before .before .before .before .before .before .before .put in
+    let done = c .before .before .before .before .before .before .before .before .process-bytes in
+    let call = Call.message (firstRun h runs) (thirdRun h runs) in
+    let fits : h .first + h .second + h .third ≤ length runs = c .before .before .before .before .before .before .before .before .before .before .before .before .before .before .before .before .before .before .before .before .before .pre .0 in
+    let room : 34 + h .third ≤ length out = c .before .before .before .before .before .before .before .before .before .before .before .before .before .before .before .before .before .before .before .before .before .pre .1 in
+    let lent = third-lent h runs out (put .last .0) fits room (put .ensures) in
+    let said : done .result ≡ processBytes (a .e) (firstRun h runs) (thirdRun h runs) =
+    done .ensures .0 ∙ ap₂ (processBytes (a .e)) (first-part h runs) lent in
+    let shows : done .last .1 .1 .0 ≡ processBytesOut (a .e) (firstRun h runs) (thirdRun h runs) =
+    done .ensures .1 ∙ ap₂ (processBytesOut (a .e)) (first-part h runs) lent in
+    let engine : done .result .engine ≡ step (a .e) call .engine = ap (λ (r : Done). r .engine) said in
+    let reply : c .before .before .before .reply-of .result ≡ replyOf (step (a .e) call .outcome) =
+    c .before .before .before .reply-of .ensures ∙ ap (λ (r : Done). replyOf (outcome (r .answer))) said in
+    let head : c .before .before .put-head .last .0 ≡ answerHead (c .before .before .before .reply-of .result) (macOf (done .result .engine) .readable) (stepsNow (done .result .engine)) (shownCount call) ++ drop 34 (take 34 (put .last .0) ++ (done .last .1 .1 .0 ++ drop (34 + h .third - 34) (drop 34 (put .last .0)))) =
+    c .before .before .put-head .ensures ∙ rw (length-third h runs fits) refl in (
+      engine,
+      answer-whole (a .e) call (c .before .before .before .reply-of .result) (done .result .engine) _ _ (drop (34 + h .third) out) reply engine head
+          (third-back h runs out (put .last .0) fits room (put .ensures) (done .last .1 .1 .0) ∙ ap (λ (l : List ℕ). l ++ drop (34 + h .third) out) shows),
+    )
+
+pub process-bytes-spec : {M : Type 1} → statement M
+process-bytes-spec =
+    tie.close
+    (tie.spec
+    add-b
+    add-c
+    add-end
+    sub-put
+    part-put-start
+    part-put-end
+    put-requires
+    sub-process-bytes
+    part-process-bytes-start
+    part-process-bytes-end
+    sub-process-bytes-2
+    part-process-bytes-start-2
+    part-process-bytes-end-2
+    process-bytes-requires
+    reply-of-requires
+    put-head-requires
+    same-length
+    returns)

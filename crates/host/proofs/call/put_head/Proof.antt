@@ -1,0 +1,88 @@
+use mathlib.Core.Path.{ap, _∙_}
+use Prim.Native.Nat.{ℕ}
+use lib.Seq.{paste}
+use Rattle.host.specs.Bytes.{number}
+use Rattle.host.proofs.AnswerLaws.{head-written}
+use borrow.Author.Needs.{needs}
+use Rattle.host.proofs.call.put_head.Statement.{statement}
+use Rattle.host.proofs.call.put_head.Tie as tie
+use Rattle.host.proofs.call.put_head.Reads as reads
+use Rattle.host.proofs.call.put_head.Lts as lts
+use Rattle.host.proofs.bytes.put.Reads as put-reads
+use Rattle.host.proofs.bytes.put_number.Reads as put-number-reads
+use Rattle.host.proofs.call.readable.Reads as readable-reads
+use Rattle.tc_sparkle_aead.proofs.aead_cipher.steps.Reads as steps-reads
+
+-- src/call.rt:115:28
+readable-requires : tie.Need-readable-requires
+readable-requires c κs = search needs
+
+-- src/call.rt:116:24
+slice-aggregate-put : tie.Need-slice-aggregate-put
+slice-aggregate-put c = search needs
+
+-- src/call.rt:116:5
+put-requires : tie.Need-put-requires
+put-requires c κs = search needs
+
+-- src/call.rt:117:5
+put-number-requires : tie.Need-put-number-requires
+put-number-requires c κs = search needs
+
+-- src/call.rt:118:5
+put-number-requires-2 : tie.Need-put-number-requires-2
+put-number-requires-2 c κs = search needs
+
+-- src/call.rt:119:32
+steps-requires : tie.Need-steps-requires
+steps-requires c κs = search needs
+
+-- src/call.rt:119:5
+put-number-requires-3 : tie.Need-put-number-requires-3
+put-number-requires-3 c κs = search needs
+
+-- src/call.rt:120:5
+put-number-requires-4 : tie.Need-put-number-requires-4
+put-number-requires-4 c κs = search needs
+
+-- src/call.rt:111:1
+same-length : tie.Need-same-length
+same-length c = search needs
+
+-- src/call.rt:111:1
+returns : tie.Need-returns
+returns c =
+    let s = c .before .before .before .before .before .before .before .before .before .before .before .before .before .before .before .before .before .before .before .before .before .before .before .before in
+    head-written
+    (s .args .out .now)
+    (c .before .before .before .before .before .before .before .before .before .before .before .before .before .before .before .before .before .before .before .put .last .0)
+    (c .before .before .before .before .before .before .before .before .before .before .before .before .before .before .before .put-number .last .0)
+    (c .before .before .before .before .before .before .before .before .before .before .before .put-number2 .last .0)
+    (c .before .before .before .before .before .before .put-number3 .last .0)
+    _
+    (s .args .r)
+    (c .before .before .before .before .before .before .before .before .before .before .before .before .before .before .before .before .before .before .before .before .before .before .readable .result)
+    _
+    _
+    (s .args .n)
+    (c .before .before .before .before .before .before .before .before .before .before .before .before .before .before .before .before .before .before .before .before .before .before .readable .ensures)
+    (c .before .before .before .before .before .before .before .before .before .before .before .before .before .before .before .before .before .before .before .put .ensures)
+    (c .before .before .before .before .before .before .before .before .before .before .before .before .before .before .before .put-number .ensures)
+    (c .before .before .before .before .before .before .before .before .before .before .before .put-number2 .ensures)
+    (c .before .before .before .before .before .before .put-number3 .ensures ∙ ap (λ (k : ℕ). paste (c .before .before .before .before .before .before .before .before .before .before .before .put-number2 .last .0) 18 (number k) 8) (c .before .before .before .before .before .before .before .steps .ensures))
+    (c .before .before .put-number4 .ensures)
+
+pub put-head-spec : {M : Type 1} → statement M
+put-head-spec =
+    tie.close
+    (tie.spec
+    readable-requires
+    slice-aggregate-put
+    put-requires
+    put-number-requires
+    put-number-requires-2
+    steps-requires
+    put-number-requires-3
+    put-number-requires-4
+    same-length
+    returns)

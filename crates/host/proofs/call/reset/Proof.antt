@@ -1,0 +1,43 @@
+use mathlib.Core.Path.{refl}
+use lib.ListN.{drop}
+use Rattle.claims.specs.Call.{Call, step}
+use Rattle.host.specs.CallList.{shown, shownCount}
+use Rattle.host.proofs.AnswerLaws.{answer-whole}
+use borrow.Author.Needs.{needs}
+use Rattle.host.proofs.call.reset.Statement.{statement}
+use Rattle.host.proofs.call.reset.Tie as tie
+use Rattle.host.proofs.call.reset.Reads as reads
+use Rattle.host.proofs.call.reset.Lts as lts
+use Rattle.host.proofs.call.count.Reads as count-reads
+use Rattle.host.proofs.call.put_head.Reads as put-head-reads
+use Rattle.tc_sparkle_aead.proofs.aead_cipher.reset.Reads as reset-reads
+
+-- src/call.rt:189:9
+reset-requires : tie.Need-reset-requires
+reset-requires c κs = search needs
+
+-- src/call.rt:190:19
+count-requires : tie.Need-count-requires
+count-requires c κs = search needs
+
+-- src/call.rt:190:5
+put-head-requires : tie.Need-put-head-requires
+put-head-requires c κs = search needs
+
+-- src/call.rt:184:1
+same-length : tie.Need-same-length
+same-length c = search needs
+
+-- src/call.rt:184:1
+returns : tie.Need-returns
+unfolding step shown shownCount
+returns c =
+    let a = c .before .before .before .before .before .before .before .args in
+    let engine = c .before .before .before .before .before .reset .ensures in (
+      engine,
+      answer-whole (a .e) Call.reset (c .before .before .before .count .result) (c .before .before .before .before .before .reset .result) _ (drop 34 (a .out .now)) (drop 34 (a .out .now)) (c .before .before .before .count .ensures) engine (c .before .before .put-head .ensures) refl,
+    )
+
+pub reset-spec : {M : Type 1} → statement M
+reset-spec =
+    tie.close (tie.spec reset-requires count-requires put-head-requires same-length returns)

@@ -1,0 +1,48 @@
+use mathlib.Core.Path.{_≡_, refl, ap, _∙_}
+use lib.ListN.{drop}
+use Rattle.tc_sparkle_aead.specs.declared.aead_error.AeadResult.{AeadResult}
+use Rattle.claims.specs.Call.{Call, Left, step, outcome}
+use Rattle.host.specs.Reply.{replyOf}
+use Rattle.host.specs.CallList.{shown, shownCount}
+use Rattle.host.proofs.AnswerLaws.{answer-whole}
+use borrow.Author.Needs.{needs}
+use Rattle.host.proofs.call.update_output_len.Statement.{statement}
+use Rattle.host.proofs.call.update_output_len.Tie as tie
+use Rattle.host.proofs.call.update_output_len.Reads as reads
+use Rattle.host.proofs.call.update_output_len.Lts as lts
+use Rattle.host.proofs.call.put_head.Reads as put-head-reads
+use Rattle.host.proofs.reply.reply_of.Reads as reply-of-reads
+use Rattle.tc_sparkle_aead.proofs.aead_cipher.update_output_len.Reads as update-output-len-reads
+
+-- src/call.rt:214:25
+update-output-len-requires : tie.Need-update-output-len-requires
+update-output-len-requires c κs = search needs
+
+-- src/call.rt:214:9
+reply-of-requires : tie.Need-reply-of-requires
+reply-of-requires c κs = search needs
+
+-- src/call.rt:212:5
+put-head-requires : tie.Need-put-head-requires
+put-head-requires c κs = search needs
+
+-- src/call.rt:207:1
+same-length : tie.Need-same-length
+same-length c = search needs
+
+-- src/call.rt:207:1
+returns : tie.Need-returns
+unfolding step shown shownCount
+returns c =
+    let a = c .before .before .before .before .before .before .before .args in
+    let call = Call.update (a .n) in
+    let reply : c .before .before .before .reply-of .result ≡ replyOf (step (a .e) call .outcome) =
+    c .before .before .before .reply-of .ensures ∙ ap (λ (r : AeadResult). replyOf (outcome r)) (c .before .before .before .before .update-output-len .ensures) in (
+      refl,
+      answer-whole (a .e) call (c .before .before .before .reply-of .result) (a .e) _ (drop 34 (a .out .now)) (drop 34 (a .out .now)) reply refl (c .before .before .put-head .ensures) refl,
+    )
+
+pub update-output-len-spec : {M : Type 1} → statement M
+update-output-len-spec =
+    tie.close
+    (tie.spec update-output-len-requires reply-of-requires put-head-requires same-length returns)

@@ -1,0 +1,92 @@
+use mathlib.Core.Path.{sym, _∙_}
+use native.Mathlib.Omega.{arith}
+use Rattle.tc_sparkle_aead.specs.declared.aead_error.AeadResult.the-variants.{Ok, Err}
+use Rattle.host.proofs.PacketLaws.{end-bound, end-reply, end-out}
+use borrow.Author.Needs.{needs}
+use Rattle.host.proofs.packet.end.Statement.{statement}
+use Rattle.host.proofs.packet.end.Tie as tie
+use Rattle.host.proofs.packet.end.Reads as reads
+use Rattle.host.proofs.packet.end.Lts as lts
+use Rattle.host.proofs.reply.reply_of.Reads as reply-of-reads
+use Rattle.tc_sparkle_aead.proofs.aead_cipher.do_final.Reads as do-final-reads
+
+-- src/packet.rt:24:38
+sub-do-final : tie.Need-sub-do-final
+sub-do-final c = search needs
+
+-- src/packet.rt:24:38
+part-do-final-start : tie.Need-part-do-final-start
+part-do-final-start c = search needs
+
+-- src/packet.rt:24:38
+part-do-final-end : tie.Need-part-do-final-end
+part-do-final-end c = search needs
+
+-- src/packet.rt:24:9
+do-final-requires : tie.Need-do-final-requires
+do-final-requires c κs = search needs
+
+-- src/packet.rt:27:24
+enum-known-r : tie.Need-enum-known-r
+enum-known-r c = search needs
+
+-- src/packet.rt:29:20
+add-t13 : tie.Need-add-t13
+add-t13 c =
+    let s = c .before .before .before .before .before .before .before .before in
+    let done = c .before .before .before .before .before .do-final in
+    let bound = end-bound (s .args .n) (s .args .e) (s .args .out .now) _ (done .result) (done .ensures .0) (done .ensures .1) _ (c .before .r .given .1) (s .pre) in
+    omega (arith, bound, s .good)
+
+-- src/packet.rt:32:25
+enum-known-r-2 : tie.Need-enum-known-r-2
+enum-known-r-2 c = search needs
+
+-- src/packet.rt:32:31
+reply-of-requires : tie.Need-reply-of-requires
+reply-of-requires c κs = search needs
+
+-- src/packet.rt:19:1
+same-length : tie.Need-same-length
+same-length c = search needs
+
+-- src/packet.rt:19:1
+returns : tie.Need-returns
+returns c =
+    let a = c .before .before .before .before .before .before .before .before .args in
+    let done = c .before .before .before .before .before .do-final in
+    let m = c .before .r .given .0 .0 in (
+      sym (end-reply (a .n) (a .e) (a .out .now) _ (done .result) (done .ensures .0) (done .ensures .1) (Ok m) (c .before .r .given .1)),
+      end-out (a .n) (a .e) (a .out .now) _ (done .result) (done .ensures .0) (done .ensures .1),
+    )
+
+-- src/packet.rt:19:1
+same-length-2 : tie.Need-same-length-2
+same-length-2 c = search needs
+
+-- src/packet.rt:19:1
+returns-2 : tie.Need-returns-2
+returns-2 c =
+    let a = c .before .before .before .before .before .before .before .before .before .args in
+    let done = c .before .before .before .before .before .before .do-final in
+    let x = c .before .before .r2 .given .0 .0 in (
+      c .reply-of .ensures ∙ sym (end-reply (a .n) (a .e) (a .out .now) _ (done .result) (done .ensures .0) (done .ensures .1) (Err x) (c .before .before .r2 .given .1)),
+      end-out (a .n) (a .e) (a .out .now) _ (done .result) (done .ensures .0) (done .ensures .1),
+    )
+
+pub end-spec : {M : Type 1} → statement M
+end-spec =
+    tie.close
+    (tie.spec
+    sub-do-final
+    part-do-final-start
+    part-do-final-end
+    do-final-requires
+    enum-known-r
+    add-t13
+    enum-known-r-2
+    reply-of-requires
+    same-length
+    returns
+    same-length-2
+    returns-2)

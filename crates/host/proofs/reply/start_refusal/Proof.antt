@@ -1,0 +1,33 @@
+-- `start_refusal` meets its contract, arm by arm.
+use borrow.Author.Needs.{needs}
+use Rattle.host.proofs.reply.start_refusal.Statement.{statement}
+use Rattle.host.proofs.reply.start_refusal.Tie as tie
+
+returns : tie.Need-returns
+returns c = rw (c .before .before .x .given .1) (c .told .ensures)
+
+returns-2 : tie.Need-returns-2
+returns-2 c = rw (c .before .before .x2 .given .1) (c .told2 .ensures)
+
+returns-3 : tie.Need-returns-3
+returns-3 c = rw (c .before .before .x3 .given .1) (c .told3 .ensures)
+
+returns-4 : tie.Need-returns-4
+returns-4 c = rw (c .before .enum-told .given .1) (c .told4 .ensures)
+
+pub start-refusal-spec : {M : Type 1} → statement M
+start-refusal-spec =
+    tie.close
+    (tie.spec
+    (λ c. search needs)
+    (λ c κs. search needs)
+    (λ c. search needs)
+    (λ c κs. search needs)
+    (λ c. search needs)
+    (λ c κs. search needs)
+    (λ c. search needs)
+    (λ c κs. search needs)
+    returns
+    returns-2
+    returns-3
+    returns-4)

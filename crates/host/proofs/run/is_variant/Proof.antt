@@ -1,0 +1,21 @@
+use mathlib.Core.Path.{refl}
+use native.Mathlib.Omega.{arith}
+use borrow.Author.Tests.{lt-ltb, le-ltb}
+use Rattle.host.specs.CallList.{isVariant}
+use Rattle.host.proofs.run.is_variant.Statement.{statement}
+use Rattle.host.proofs.run.is_variant.Tie as tie
+use Rattle.host.proofs.run.is_variant.Reads as reads
+use Rattle.host.proofs.run.is_variant.Lts as lts
+
+-- src/run.rt:21:1
+returns : tie.Need-returns
+unfolding isVariant
+returns c = rw (lt-ltb (c .before .args .n) 1 (omega arith)) refl
+
+-- src/run.rt:21:1
+returns-2 : tie.Need-returns-2
+unfolding isVariant
+returns-2 c = rw (le-ltb (c .before .args .n) 1 (omega arith)) refl
+
+pub is-variant-spec : {M : Type 1} → statement M
+is-variant-spec = tie.close (tie.spec returns returns-2)

@@ -1,0 +1,77 @@
+use mathlib.Core.Path.{_≡_, sym, ap, _∙_}
+use Prim.Native.Nat.{ℕ, _-_}
+use lib.ListN.{length}
+use Rattle.tc_sparkle_aead.specs.Calls.{written}
+use Rattle.host.specs.declared.run.Stop.{Stop}
+use Rattle.host.specs.CallList.{Ran}
+use Rattle.host.proofs.RunLaws.{list-refused, list-empty, list-run}
+use borrow.Author.Needs.{needs}
+use Rattle.host.proofs.run.run_list.Statement.{statement}
+use Rattle.host.proofs.run.run_list.Tie as tie
+use Rattle.host.proofs.run.run_list.Reads as reads
+use Rattle.host.proofs.run.run_list.Lts as lts
+use Rattle.host.proofs.run.is_variant.Reads as is-variant-reads
+use Rattle.host.proofs.run.run_calls.Reads as run-calls-reads
+use Rattle.host.proofs.run.variant.Reads as variant-reads
+use Rattle.tc_sparkle_aead.proofs.engine.new.Reads as new-reads
+
+-- src/run.rt:88:9
+abbrev stopOf : ℕ → Ran → Stop
+stopOf n r = record { code = r .code; place = n - r .left }
+
+returns : tie.Need-returns
+returns c =
+    let a = c .before .before .before .args in list-empty (a .list .now) (a .answers .now) (c .if1 .taken)
+
+-- src/run.rt:90:13
+shared-slice-read-v : tie.Need-shared-slice-read-v
+shared-slice-read-v c = search needs
+
+-- src/run.rt:91:8
+is-variant-requires : tie.Need-is-variant-requires
+is-variant-requires c κs = search needs
+
+-- src/run.rt:92:31
+variant-requires : tie.Need-variant-requires
+variant-requires c κs = search needs
+
+-- src/run.rt:92:19
+new-requires : tie.Need-new-requires
+new-requires c κs = search needs
+
+-- src/run.rt:92:9
+run-calls-requires : tie.Need-run-calls-requires
+run-calls-requires c κs = search needs
+
+-- src/run.rt:83:1
+same-length : tie.Need-same-length
+same-length c = search needs
+
+-- src/run.rt:83:1
+returns-2 : tie.Need-returns-2
+returns-2 c =
+    let a = c .before .before .before .before .before .before .before .before .before .before .before .before .args in
+    let same =
+    list-run (a .list .now) (length (a .answers .now)) (c .before .before .before .before .before .variant .result) (c .before .before .before .before .new .result) (sym (c .before .before .before .before .before .before .before .is-variant .ensures) ∙ c .before .before .before .before .before .before .if2 .taken) (c .before .before .before .before .before .variant .ensures) (c .before .before .before .before .new .ensures) in (
+      c .before .before .run-calls .ensures .0 ∙ ap (stopOf (length (a .list .now))) same,
+      c .before .before .run-calls .ensures .1 ∙ ap (λ (r : Ran). written (r .answers) (a .answers .now)) same,
+    )
+
+-- src/run.rt:83:1
+returns-3 : tie.Need-returns-3
+returns-3 c =
+    let a = c .before .before .before .before .before .before .args in list-refused (a .list .now) (a .answers .now) (sym (c .before .is-variant .ensures) ∙ c .if2 .left)
+
+pub run-list-spec : {M : Type 1} → statement M
+run-list-spec =
+    tie.close
+    (tie.spec
+    returns
+    shared-slice-read-v
+    is-variant-requires
+    variant-requires
+    new-requires
+    run-calls-requires
+    same-length
+    returns-2
+    returns-3)

@@ -1,0 +1,25 @@
+use mathlib.Core.Path.{ap}
+use Rattle.host.specs.declared.reply.Reply.{Reply}
+use borrow.Author.Needs.{needs}
+use Rattle.host.proofs.schwaemm_open.Statement.{statement}
+use Rattle.host.proofs.schwaemm_open.Tie as tie
+use Rattle.host.proofs.schwaemm_open.Reads as reads
+use Rattle.host.proofs.schwaemm_open.Lts as lts
+use Rattle.host.proofs.packet.packet.Reads as packet-reads
+
+-- src/lib.rt:74:9
+packet-requires : tie.Need-packet-requires
+packet-requires c κs = search needs
+
+-- src/lib.rt:60:1
+same-length : tie.Need-same-length
+same-length c = search needs
+
+-- src/lib.rt:60:1
+returns : tie.Need-returns
+returns c =
+    let done = c .before .before .packet in
+    (ap (λ (r : Reply). r .number) (done .ensures .0), (ap (λ (r : Reply). r .first) (done .ensures .0), done .ensures .1))
+
+pub schwaemm-open-spec : {M : Type 1} → statement M
+schwaemm-open-spec = tie.close (tie.spec packet-requires same-length returns)

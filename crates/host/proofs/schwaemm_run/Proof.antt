@@ -1,0 +1,25 @@
+use mathlib.Core.Path.{ap}
+use Rattle.host.specs.declared.run.Stop.{Stop}
+use borrow.Author.Needs.{needs}
+use Rattle.host.proofs.schwaemm_run.Statement.{statement}
+use Rattle.host.proofs.schwaemm_run.Tie as tie
+use Rattle.host.proofs.schwaemm_run.Reads as reads
+use Rattle.host.proofs.schwaemm_run.Lts as lts
+use Rattle.host.proofs.run.run_list.Reads as run-list-reads
+
+-- src/lib.rt:26:9
+run-list-requires : tie.Need-run-list-requires
+run-list-requires c κs = search needs
+
+-- src/lib.rt:20:1
+same-length : tie.Need-same-length
+same-length c = search needs
+
+-- src/lib.rt:20:1
+returns : tie.Need-returns
+returns c =
+    let done = c .before .before .run-list in
+    (ap (λ (s : Stop). s .code) (done .ensures .0), (ap (λ (s : Stop). s .place) (done .ensures .0), done .ensures .1))
+
+pub schwaemm-run-spec : {M : Type 1} → statement M
+schwaemm-run-spec = tie.close (tie.spec run-list-requires same-length returns)

@@ -1,0 +1,25 @@
+use mathlib.Core.Path.{ap}
+use Rattle.host.specs.declared.reply.Reply.{Reply}
+use borrow.Author.Needs.{needs}
+use Rattle.host.proofs.schwaemm_seal.Statement.{statement}
+use Rattle.host.proofs.schwaemm_seal.Tie as tie
+use Rattle.host.proofs.schwaemm_seal.Reads as reads
+use Rattle.host.proofs.schwaemm_seal.Lts as lts
+use Rattle.host.proofs.packet.packet.Reads as packet-reads
+
+-- src/lib.rt:46:9
+packet-requires : tie.Need-packet-requires
+packet-requires c κs = search needs
+
+-- src/lib.rt:32:1
+same-length : tie.Need-same-length
+same-length c = search needs
+
+-- src/lib.rt:32:1
+returns : tie.Need-returns
+returns c =
+    let done = c .before .before .packet in
+    (ap (λ (r : Reply). r .number) (done .ensures .0), (ap (λ (r : Reply). r .first) (done .ensures .0), done .ensures .1))
+
+pub schwaemm-seal-spec : {M : Type 1} → statement M
+schwaemm-seal-spec = tie.close (tie.spec packet-requires same-length returns)

@@ -1,0 +1,155 @@
+-- A call list in bytes, and the answers to it in bytes (docs/HOST.md).
+use Prim.Native.Nat.{ℕ, zero, suc, _+_, _-_}
+use mathlib.Core.Bool.{Bool, true, false, cond}
+use mathlib.Core.List.{List, [], _∷_, _++_}
+use lib.ListN.{length, take, drop, getD}
+use lib.Dec.{ltb, leb, eqb}
+use Rattle.tc_sparkle_aead.specs.declared.variant.SparkleVariant.{SparkleVariant}
+use Rattle.tc_sparkle_aead.specs.declared.variant.SparkleVariant.the-variants.{«Schwaemm128_128», «Schwaemm256_128», «Schwaemm192_192», «Schwaemm256_256»}
+use Rattle.tc_sparkle_aead.specs.declared.phase.Direction.the-variants.{Encrypt, Decrypt}
+use Rattle.tc_sparkle_aead.specs.declared.engine.SparkleEngine.{SparkleEngine}
+use Rattle.tc_sparkle_aead.specs.Engine.{newEngine}
+use Rattle.tc_sparkle_aead.specs.Calls.{macOf}
+use Rattle.claims.specs.Call.{Call, Left, Line, step, line}
+use Rattle.host.specs.declared.call.Head.{Head}
+use Rattle.host.specs.declared.call.Read.{Read}
+use Rattle.host.specs.declared.call.Read.the-variants.{Malformed, Call as ReadCall}
+use Rattle.host.specs.declared.reply.Reply.{Reply}
+use Rattle.host.specs.Reply.{replyOf}
+use Rattle.host.specs.Bytes.{numberAt, number}
+
+-- ---- A call in a list
+
+-- The head of the call in front of the rest of a list: its kind, its number, and the lengths of its three runs of bytes.
+unfoldable pub headOf : List ℕ → Head
+headOf rest =
+    record {
+      kind = getD rest 0 0;
+      number = numberAt rest 1;
+      first = numberAt rest 9;
+      second = numberAt rest 17;
+      third = numberAt rest 25;
+    }
+
+-- The bytes of a call: its head's and its runs'.
+unfoldable pub callLength : Head → ℕ
+callLength h = 33 + h .first + h .second + h .third
+
+-- A call is well-formed: its head is whole, its kind is one of the nine, its runs stand in the list.
+unfoldable pub wellFormed : List ℕ → Bool
+wellFormed rest =
+    cond (ltb (length rest) 33) false
+    (cond (ltb (headOf rest .kind) 1) false
+    (cond (ltb 9 (headOf rest .kind)) false (leb (callLength (headOf rest)) (length rest))))
+
+unfoldable pub readOf : List ℕ → Read
+readOf rest = cond (wellFormed rest) (ReadCall (headOf rest)) Malformed
+
+-- The runs of bytes.
+unfoldable pub firstRun : Head → List ℕ → List ℕ
+firstRun h runs = take (h .first) runs
+
+unfoldable pub secondRun : Head → List ℕ → List ℕ
+secondRun h runs = take (h .second) (drop (h .first) runs)
+
+unfoldable pub thirdRun : Head → List ℕ → List ℕ
+thirdRun h runs = take (h .third) (drop (h .first + h .second) runs)
+
+-- The call of a head and its runs; kinds 1 to 9.
+unfoldable pub callOf : Head → List ℕ → Call
+callOf h runs =
+    cond (eqb (h .kind) 1) (Call.start Encrypt (firstRun h runs) (secondRun h runs) (h .number) (thirdRun h runs))
+    (cond (eqb (h .kind) 2) (Call.start Decrypt (firstRun h runs) (secondRun h runs) (h .number) (thirdRun h runs))
+    (cond (eqb (h .kind) 3) (Call.header (firstRun h runs))
+    (cond (eqb (h .kind) 4) (Call.message (firstRun h runs) (thirdRun h runs))
+    (cond (eqb (h .kind) 5) (Call.end (thirdRun h runs))
+    (cond (eqb (h .kind) 6) Call.reset
+    (cond (eqb (h .kind) 7) Call.tag (cond (eqb (h .kind) 8) (Call.update (h .number)) (Call.output (h .number)))))))))
+
+-- ---- An answer
+
+-- The bytes behind the head of an answer: the output after the call; for the tag, the array that holds it.
+unfoldable pub shown : SparkleEngine → Call → List ℕ
+shown e (Call.start d key nonce size header) = []
+shown e (Call.header input) = []
+shown e (Call.message input out) = step e (Call.message input out) .buffer
+shown e (Call.end out) = step e (Call.end out) .buffer
+shown e Call.reset = []
+shown e Call.tag = macOf e .bytes
+shown e (Call.update n) = []
+shown e (Call.output n) = []
+
+-- How many they are: the output's; the tag's array has 32. Of a call, and by its head.
+unfoldable pub shownCount : Call → ℕ
+shownCount (Call.start d key nonce size header) = 0
+shownCount (Call.header input) = 0
+shownCount (Call.message input out) = length out
+shownCount (Call.end out) = length out
+shownCount Call.reset = 0
+shownCount Call.tag = 32
+shownCount (Call.update n) = 0
+shownCount (Call.output n) = 0
+
+unfoldable pub shownLength : Head → ℕ
+shownLength h =
+    cond (eqb (h .kind) 4) (h .third) (cond (eqb (h .kind) 5) (h .third) (cond (eqb (h .kind) 7) 32 0))
+
+unfoldable pub flag : Bool → ℕ
+flag b = cond b 1 0
+
+-- The head of an answer: the reply's number, whether a tag can be read, the reply's values, the steps, and how many
+-- bytes stand behind.
+unfoldable pub answerHead : Reply → Bool → ℕ → ℕ → List ℕ
+answerHead r readable steps n =
+    r .number ∷ (flag readable ∷ (number (r .first) ++ (number (r .second) ++ (number steps ++ number n))))
+
+unfoldable pub answerOf : SparkleEngine → Call → List ℕ
+answerOf e c =
+    let l = line (step e c) in
+    answerHead (replyOf (l .outcome)) (l .readable) (l .steps) (shownCount c) ++ shown e c
+
+-- ---- A run
+
+-- What a run of a list leaves: a return code, how many bytes of the list are left where it stopped, and the answers.
+pub record Ran : Type 0 where
+  pub code : ℕ
+  pub left : ℕ
+  pub answers : List ℕ
+
+unfoldable pub stopped : ℕ → List ℕ → Ran
+stopped code rest = record { code = code; left = length rest; answers = [] }
+
+unfoldable pub answered : List ℕ → Ran → Ran
+answered bytes r = record { code = r .code; left = r .left; answers = bytes ++ r .answers }
+
+-- The calls of the rest of a list, each on the engine as the last one left it: 0 at the list's end, 21 where a call is
+-- malformed, 22 where its answer has no room. The first number bounds the calls; the rest's length is enough.
+unfoldable pub runCalls : ℕ → List ℕ → SparkleEngine → ℕ → Ran
+runCalls zero rest e room = stopped 0 rest
+runCalls (suc k) rest e room =
+    let h = headOf rest in
+    let c = callOf h (drop 33 rest) in
+    cond (ltb 0 (length rest))
+    (cond (wellFormed rest)
+    (cond (leb (34 + shownLength h) room)
+    (answered (answerOf e c)
+    (runCalls k (drop (callLength h) rest) (step e c .engine) (room - (34 + shownLength h))))
+    (stopped 22 rest))
+    (stopped 21 rest))
+    (stopped 0 rest)
+
+-- The variant of document 01's number.
+unfoldable pub variantOf : ℕ → SparkleVariant
+variantOf n =
+    cond (eqb n 1) «Schwaemm128_128»
+    (cond (eqb n 2) «Schwaemm256_128» (cond (eqb n 3) «Schwaemm192_192» «Schwaemm256_256»))
+
+unfoldable pub isVariant : ℕ → Bool
+isVariant n = cond (ltb n 1) false (leb n 4)
+
+-- The run of a list on a new engine of its variant.
+unfoldable pub runList : List ℕ → ℕ → Ran
+runList list room =
+    cond (isVariant (getD list 0 0))
+    (runCalls (length list) (drop 1 list) (newEngine (variantOf (getD list 0 0))) room)
+    (stopped 21 list)

@@ -1,0 +1,5 @@
+-- The definitions that the boundary's contracts cite.
+pub mod Reply
+pub mod Bytes
+pub mod CallList
+pub mod Packet

@@ -1,0 +1,48 @@
+-- A whole packet at once: init on a new engine, one data call and the end.
+use Prim.Native.Nat.{ℕ, _+_}
+use mathlib.Core.Bool.{Bool, true, false, cond}
+use mathlib.Core.List.{List, [], _∷_, _++_}
+use lib.ListN.{length, take, drop}
+use Rattle.tc_sparkle_aead.specs.declared.phase.Direction.{Direction}
+use Rattle.tc_sparkle_aead.specs.declared.engine.SparkleEngine.{SparkleEngine}
+use Rattle.tc_sparkle_aead.specs.Variant.{paramsOf}
+use Rattle.tc_sparkle_aead.specs.Engine.{newEngine}
+use Rattle.claims.specs.Call.{Call, Outcome, Left, step}
+use Rattle.host.specs.declared.reply.Reply.{Reply}
+use Rattle.host.specs.Reply.{replyOf}
+use Rattle.host.specs.CallList.{variantOf, isVariant}
+
+-- The reply of the first call that is refused, or of the end; and the output.
+pub record Packed : Type 0 where
+  pub reply : Reply
+  pub out : List ℕ
+
+-- The end, behind the n bytes that the data call wrote.
+abbrev pub endBy : ℕ → Outcome → List ℕ → Packed
+endBy n (Outcome.ok m) out = record { reply = replyOf (Outcome.ok (n + m)); out = out }
+endBy n (Outcome.no v) out = record { reply = replyOf (Outcome.no v); out = out }
+
+unfoldable pub endPacket : ℕ → SparkleEngine → List ℕ → Packed
+endPacket n e out =
+    let l = step e (Call.end (drop n out)) in endBy n (l .outcome) (take n out ++ l .buffer)
+
+-- The data call and the end.
+abbrev pub dataBy : Outcome → SparkleEngine → List ℕ → Packed
+dataBy (Outcome.ok n) e out = endPacket n e out
+dataBy (Outcome.no v) e out = record { reply = replyOf (Outcome.no v); out = out }
+
+unfoldable pub dataPacket : SparkleEngine → (input out : List ℕ) → Packed
+dataPacket e input out =
+    let l = step e (Call.message input out) in dataBy (l .outcome) (l .engine) (l .buffer)
+
+-- The start, the data call and the end, on a new engine of the variant of a number; 23 where no variant has it.
+abbrev pub startBy : Outcome → SparkleEngine → (input out : List ℕ) → Packed
+startBy (Outcome.ok n) e input out = dataPacket e input out
+startBy (Outcome.no v) e input out = record { reply = replyOf (Outcome.no v); out = out }
+
+unfoldable pub packetOf : ℕ → Direction → (key nonce header input out : List ℕ) → Packed
+packetOf v d key nonce header input out =
+    let p = paramsOf (variantOf v) in
+    let l = step (newEngine (variantOf v)) (Call.start d key nonce (p .key) header) in
+    cond (isVariant v) (startBy (l .outcome) (l .engine) input out)
+    (record { reply = record { number = 23; first = 0; second = 0 }; out = out })

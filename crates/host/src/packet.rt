@@ -1,0 +1,83 @@
+// A whole packet at once: init on a new engine, one data call and the end.
+ghost use mathlib.Core.Path.{_≡_};
+ghost use Prim.Native.Nat.{_≤_};
+ghost use lib.ListN.{length};
+ghost use Rattle.host.specs.Packet.{endPacket, dataPacket, packetOf};
+use super::reply;
+use super::reply::Reply;
+use super::run;
+use tc_sparkle_aead::aead_cipher;
+use tc_sparkle_aead::aead_error::AeadResult;
+use tc_sparkle_aead::aead_init_error::AeadInitResult;
+use tc_sparkle_aead::engine;
+use tc_sparkle_aead::engine::SparkleEngine;
+use tc_sparkle_aead::phase::Direction;
+
+// The end, behind the n bytes that the data call wrote.
+fn end(e: SparkleEngine, n: usize, out: &mut [u8]) -> Reply
+    requires { ⌜ n ≤ length (now out) ⌝ }
+    ensures { λ r. ⌜ r ≡ endPacket n e (now (out .entry)) .reply ⌝ }
+    ensures { λ _. ⌜ now (out .exit) ≡ endPacket n e (now (out .entry)) .out ⌝ }
+{
+    let d = aead_cipher::do_final(e, &mut out[n..]);
+    let r = d.answer;
+    match r {
+        AeadResult::Ok(m) => Reply {
+            number: 0,
+            first: n + m,
+            second: 0,
+        },
+        AeadResult::Err(x) => reply::reply_of(AeadResult::Err(x)),
+    }
+}
+
+// The data call and the end.
+fn data(e: SparkleEngine, input: &[u8], out: &mut [u8]) -> Reply
+    ensures { λ r. ⌜ r ≡ dataPacket e (now (input .entry)) (now (out .entry)) .reply ⌝ }
+    ensures { λ _. ⌜ now (out .exit) ≡ dataPacket e (now (input .entry)) (now (out .entry)) .out ⌝ }
+{
+    let d = aead_cipher::process_bytes(e, input, out);
+    let r = d.answer;
+    let next = d.engine;
+    match r {
+        AeadResult::Ok(n) => end(next, n, out),
+        AeadResult::Err(x) => reply::reply_of(AeadResult::Err(x)),
+    }
+}
+
+// Seals a message or opens a packet.
+pub(crate) fn packet(
+    v: u8,
+    d: Direction,
+    key: &[u8],
+    nonce: &[u8],
+    header: &[u8],
+    input: &[u8],
+    out: &mut [u8],
+) -> Reply
+    ensures { λ r. ⌜ r ≡ packetOf v d (now (key .entry)) (now (nonce .entry)) (now (header .entry)) (now (input .entry)) (now (out .entry)) .reply ⌝ }
+    ensures { λ _. ⌜ now (out .exit) ≡ packetOf v d (now (key .entry)) (now (nonce .entry)) (now (header .entry)) (now (input .entry)) (now (out .entry)) .out ⌝ }
+{
+    if !run::is_variant(v) {
+        return Reply {
+            number: 23,
+            first: 0,
+            second: 0,
+        };
+    }
+    let variant = run::variant(v);
+    let s = aead_cipher::init(
+        engine::new(variant),
+        d,
+        key,
+        nonce,
+        variant.tag_bytes(),
+        header,
+    );
+    let r = s.answer;
+    let e = s.engine;
+    match r {
+        AeadInitResult::Ok => data(e, input, out),
+        AeadInitResult::Err(x) => reply::start_reply_of(AeadInitResult::Err(x)),
+    }
+}
