@@ -3,3 +3,4 @@ pub mod Reply
 pub mod Bytes
 pub mod CallList
 pub mod Packet
+pub mod Text

@@ -1,6 +1,9 @@
--- A sheet's outcome as three numbers.
+-- A sheet's outcome as three numbers, and back.
 use Prim.Native.Nat.{ℕ}
-use lib.ListN.{getD}
+use mathlib.Core.Bool.{cond}
+use mathlib.Core.List.{List, [], _∷_}
+use lib.Dec.{eqb, ltb}
+use lib.ListN.{getD, take}
 use Rattle.claims.specs.Call.{Outcome}
 use Rattle.claims.specs.Call.Outcome.{ok, no}
 use Rattle.host.specs.declared.reply.Reply.{Reply}
@@ -12,3 +15,15 @@ reply number first second = record { number = number; first = first; second = se
 abbrev pub replyOf : Outcome → Reply
 replyOf (ok n) = reply 0 n 0
 replyOf (no vs) = reply (getD vs 0 0) (getD vs 1 0) (getD vs 2 0)
+
+-- How many values document 01's tables give a refusal: one to 1, 2 and 3, two to 4 and 5, none to the others.
+abbrev pub values : ℕ → ℕ
+values number = cond (ltb number 4) 1 (cond (ltb number 6) 2 0)
+
+-- A refusal's number and values, from a reply.
+abbrev pub refusalOf : Reply → List ℕ
+refusalOf r = r .number ∷ take (values (r .number)) (r .first ∷ (r .second ∷ []))
+
+-- The outcome that a reply tells; `replyOf` of every answer's outcome tells that outcome.
+abbrev pub outcomeOf : Reply → Outcome
+outcomeOf r = cond (eqb (r .number) 0) (ok (r .first)) (no (refusalOf r))

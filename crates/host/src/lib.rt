@@ -13,6 +13,7 @@ mod call;
 mod packet;
 pub mod reply;
 mod run;
+pub mod text;
 
 use tc_sparkle_aead::phase::Direction;
 
