@@ -9,8 +9,8 @@ use std::path::PathBuf;
 /// or of target/staticlib in the `repository`.
 pub fn link(name: &str, variable: &str, repository: PathBuf) -> Result<(), String> {
     println!("cargo:rerun-if-env-changed={variable}");
-    let folder = env::var_os(variable)
-        .map_or_else(|| repository.join("target/staticlib"), PathBuf::from);
+    let folder =
+        env::var_os(variable).map_or_else(|| repository.join("target/staticlib"), PathBuf::from);
     let archive = folder.join(format!("lib{name}.a"));
     println!("cargo:rerun-if-changed={}", archive.display());
     if !archive.is_file() {
