@@ -28,6 +28,11 @@ impl Wiped {
         Self(Vec::with_capacity(n))
     }
 
+    /// The bytes, which are no longer wiped.
+    pub fn into_vec(mut self) -> Vec<u8> {
+        std::mem::take(&mut self.0)
+    }
+
     /// Appends `bytes`.
     pub fn extend(&mut self, bytes: &[u8]) {
         let needed = self.0.len() + bytes.len();
@@ -58,5 +63,27 @@ impl DerefMut for Wiped {
 impl Drop for Wiped {
     fn drop(&mut self) {
         wipe(&mut self.0);
+    }
+}
+
+#[cfg(test)]
+mod tests {
+    use super::{Wiped, wipe};
+
+    #[test]
+    fn wiping_leaves_zeros() {
+        let mut bytes = [7; 100];
+        wipe(&mut bytes[10..90]);
+        assert_eq!(bytes[10..90], [0; 80]);
+        assert_eq!((bytes[9], bytes[90]), (7, 7));
+    }
+
+    #[test]
+    fn growing_keeps_the_bytes() {
+        let mut bytes = Wiped::with_capacity(3);
+        let all: Vec<u8> = (0..=255).collect();
+        all.chunks(7).for_each(|piece| bytes.extend(piece));
+        assert_eq!(*bytes, *all);
+        assert_eq!(bytes.into_vec(), all);
     }
 }
