@@ -6,8 +6,12 @@ use replay::calls::{Call, Start, VARIANTS, sealed};
 use replay::recorder::{Phase, Recorder};
 use tc_sparkle_aead::SparkleVariant;
 
-/// A length at or next to a boundary of the variant.
+/// A length at or next to a boundary of the variant; seldom any length up to
+/// many blocks.
 pub fn length(r: &mut Recorder) -> usize {
+    if r.random.once_in(64) {
+        return r.random.below(3000);
+    }
     let (rate, tag) = (r.rate(), r.tag());
     let blocks = r.random.below(6);
     let at = r.random.pick(&[

@@ -101,6 +101,24 @@ fn round_trips() {
     }
 }
 
+/// The functions stand alone: threads do not disturb each other.
+#[test]
+fn threads() {
+    let (key, nonce, header) = given(Variant::Schwaemm256_256);
+    let message = message(5000);
+    let one = seal(Variant::Schwaemm256_256, &key, &nonce, &header, &message);
+    std::thread::scope(|scope| {
+        for _ in 0..4 {
+            scope.spawn(|| {
+                for _ in 0..50 {
+                    let again = seal(Variant::Schwaemm256_256, &key, &nonce, &header, &message);
+                    assert!(again == one);
+                }
+            });
+        }
+    });
+}
+
 /// Document 01's worked examples of steps.
 #[test]
 fn steps() {
