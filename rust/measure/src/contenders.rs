@@ -20,19 +20,27 @@ pub enum Contender {
     Rust,
     /// The port: `schwaemm_seal` or `schwaemm_open`.
     Rattle,
+    /// The port through the library for users: `seal_into` or `open_into`.
+    RattleLibrary,
     /// The port: a list of init, one data call and end, written beforehand.
     RattleList,
 }
 
 impl Contender {
     /// All contenders, in the order of the tables.
-    pub const ALL: [Self; 3] = [Self::Rust, Self::Rattle, Self::RattleList];
+    pub const ALL: [Self; 4] = [
+        Self::Rust,
+        Self::Rattle,
+        Self::RattleLibrary,
+        Self::RattleList,
+    ];
 
     /// The contender's name in tables and files.
     pub fn name(self) -> &'static str {
         match self {
             Self::Rust => "Rust",
             Self::Rattle => "Rattle",
+            Self::RattleLibrary => "Rattle library",
             Self::RattleList => "Rattle list",
         }
     }
@@ -71,9 +79,16 @@ pub struct Job {
     answers: Vec<u8>,
 }
 
-/// Bytes that look like nothing in particular.
-fn bytes(n: usize, seed: usize) -> Vec<u8> {
-    (0..n).map(|i| (((i + seed) * 0x9e37) >> 5) as u8).collect()
+/// Bytes that look like nothing in particular, others for each seed.
+fn bytes(n: usize, seed: u64) -> Vec<u8> {
+    let mut state = seed;
+    let next = || {
+        state = state
+            .wrapping_mul(0x5851_f42d_4c95_7f2d)
+            .wrapping_add(0x1405_7b7e_f767_814f);
+        (state >> 56) as u8
+    };
+    std::iter::repeat_with(next).take(n).collect()
 }
 
 impl Job {
@@ -129,6 +144,7 @@ impl Job {
         match contender {
             Contender::Rust => self.rust(),
             Contender::Rattle => self.rattle(),
+            Contender::RattleLibrary => self.library(),
             Contender::RattleList => {
                 let ran = host::run(self.list.bytes(), &mut self.answers);
                 assert_eq!(ran.code, 0);
@@ -162,6 +178,24 @@ impl Job {
             Operation::Open => host::open(packet, &mut self.output),
         };
         assert_eq!((done.code, done.first), (0, self.output.len()));
+    }
+
+    #[inline(never)]
+    fn library(&mut self) {
+        let variant = schwaemm::Variant::ALL[self.variant];
+        let call = match self.operation {
+            Operation::Seal => schwaemm::seal_into,
+            Operation::Open => schwaemm::open_into,
+        };
+        let written = call(
+            variant,
+            &self.key,
+            &self.nonce,
+            &self.header,
+            &self.input,
+            &mut self.output,
+        );
+        assert_eq!(written, Ok(self.output.len()));
     }
 
     /// What a contender writes.

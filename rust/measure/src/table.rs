@@ -74,33 +74,38 @@ impl Row {
     }
 }
 
-/// A table of nanoseconds a packet, a byte, and ratios, by `number`.
+/// A table of nanoseconds a packet and a byte, and of ratios, by `number`.
 pub fn table(rows: &[Row], number: fn(&Row) -> f64) -> String {
-    let mut text = String::from(
-        "| variant | operation | header | message | Rust ns | Rattle ns | Rattle list ns | Rust ns a byte | Rattle ns a byte | Rattle / Rust | Rattle list / Rust |\n",
+    let names = Contender::ALL.map(Contender::name).join(" | ");
+    let mut text = format!(
+        "| variant | operation | header | message | {names} | Rust a byte | Rattle a byte | Rattle / Rust | Rattle library / Rust | Rattle list / Rust |\n"
     );
-    writeln!(text, "|---:|---|{}", "---:|".repeat(9)).unwrap();
+    writeln!(text, "|---:|---|{}", "---:|".repeat(11)).unwrap();
     for row in rows.iter().filter(|row| row.contender == Contender::Rust) {
         let of = |contender| {
             rows.iter()
                 .find(|r| r.same_packet(row) && r.contender == contender)
                 .map_or(f64::NAN, number)
         };
-        let [rust, rattle, list] = Contender::ALL.map(of);
+        let times = Contender::ALL.map(of);
+        let [rust, rattle, library, list] = times;
         let length = row.length as f64;
-        writeln!(
-            text,
-            "| {} | {} | {} | {} | {rust:.0} | {rattle:.0} | {list:.0} | {:.2} | {:.2} | {:.2} | {:.2} |",
-            row.variant + 1,
-            row.operation.name(),
-            row.header,
-            row.length,
+        let mut cells = vec![
+            (row.variant + 1).to_string(),
+            row.operation.name().to_string(),
+            row.header.to_string(),
+            row.length.to_string(),
+        ];
+        cells.extend(times.map(|time| format!("{time:.0}")));
+        let small = [
             rust / length,
             rattle / length,
             rattle / rust,
+            library / rust,
             list / rust,
-        )
-        .unwrap();
+        ];
+        cells.extend(small.map(|n| format!("{n:.2}")));
+        writeln!(text, "| {} |", cells.join(" | ")).unwrap();
     }
     text
 }
@@ -142,11 +147,14 @@ fn size(length: usize) -> String {
     }
 }
 
+/// The contenders that the plot shows.
+const PLOTTED: [Contender; 3] = [Contender::Rust, Contender::Rattle, Contender::RattleList];
+
 /// How a contender's line looks.
 fn line_style(contender: Contender) -> &'static str {
     match contender {
         Contender::Rust => "stroke=\"#c05a00\"",
-        Contender::Rattle => "stroke=\"#1f5fbf\"",
+        Contender::Rattle | Contender::RattleLibrary => "stroke=\"#1f5fbf\"",
         Contender::RattleList => "stroke=\"#1f5fbf\" stroke-dasharray=\"4 3\"",
     }
 }
@@ -204,7 +212,7 @@ fn frame(svg: &mut String, panel: &Panel, name: &str, lengths: &[usize]) {
 
 /// The contenders' lines in a panel.
 fn lines(svg: &mut String, panel: &Panel, rows: &[&Row]) {
-    for contender in Contender::ALL {
+    for contender in PLOTTED {
         let points: Vec<String> = rows
             .iter()
             .filter(|row| row.contender == contender)
@@ -247,7 +255,7 @@ pub fn plot(rows: &[Row]) -> Result<String, String> {
         "<svg xmlns=\"http://www.w3.org/2000/svg\" viewBox=\"0 0 {width} {height}\" font-family=\"sans-serif\" font-size=\"12\">\n<rect width=\"{width}\" height=\"{height}\" fill=\"white\"/>\n"
     );
     writeln!(svg, "<text x=\"{LEFT}\" y=\"20\">Nanoseconds a byte over the message's length, no header; median. Both axes are logarithmic.</text>").unwrap();
-    for (i, contender) in Contender::ALL.into_iter().enumerate() {
+    for (i, contender) in PLOTTED.into_iter().enumerate() {
         let x = LEFT + 150.0 * i as f64;
         let style = line_style(contender);
         writeln!(

@@ -4,7 +4,7 @@ use std::fmt;
 
 use host::{Answers, List, Wiped};
 
-use crate::{Error, Variant};
+use crate::{Error, Variant, stack};
 
 pub use host::Direction;
 
@@ -150,6 +150,7 @@ impl Calls {
     pub(crate) fn run_raw(&self) -> Wiped {
         let mut answers = Wiped::zeros(self.list.answers_len());
         let ran = host::run(self.list.bytes(), &mut answers);
+        stack::wipe();
         assert_eq!(ran.code, 0, "the archive stopped at {}", ran.place);
         answers
     }

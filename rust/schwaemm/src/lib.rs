@@ -42,17 +42,20 @@
 //! Lists and answers are overwritten with zeros when they are dropped, and
 //! when a list has to move as it grows, by writes that the compiler has to
 //! keep. Where opening fails, what could have been written of the message is
-//! overwritten too.
+//! overwritten too. After each call of the archive 8 KiB of the stack below the
+//! caller's are overwritten: an engine is a value there, and its copies hold
+//! key and state. That is more than the calls take (docs/PERFORMANCE.md), and
+//! as much as can be done from outside; nothing is proved of it.
 //!
-//! Not wiped: the slices that the caller lends, what is handed out, the
-//! archive's part of the stack (an engine is a value there, and its copies hold
-//! key and state until other calls write over them), registers, and what the
-//! system made of any of these. Nothing is claimed of timing (docs/01-scope.md).
+//! Not wiped: the slices that the caller lends, what is handed out, registers,
+//! and what the system made of any of these. Nothing is claimed of timing
+//! (docs/01-scope.md).
 
 mod calls;
 mod error;
 mod message;
 mod packet;
+mod stack;
 mod variant;
 
 pub use calls::{Answer, Calls, Direction};

@@ -2,7 +2,7 @@
 
 use host::{Done, Packet, wipe};
 
-use crate::{Error, Variant};
+use crate::{Error, Variant, stack};
 
 /// What a one-shot call returned, with totals for the refusals' values: the
 /// archive counts an end's output from where the end begins to write.
@@ -48,6 +48,7 @@ pub fn seal_into(
         message,
     };
     let done = host::seal(packet, output);
+    stack::wipe();
     let needed = message.len().saturating_add(variant.tag_bytes());
     result(done, needed, output.len(), message.len())
 }
@@ -125,6 +126,7 @@ pub fn open_into(
         message: packet,
     };
     let done = host::open(packet, output);
+    stack::wipe();
     if matches!(done.code, 4 | 6) {
         wipe(&mut output[..needed.min(room)]);
     }

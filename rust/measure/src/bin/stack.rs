@@ -1,5 +1,5 @@
 //! How much stack sealing and opening a packet take, and how many copies of
-//! the key and of the message's first bytes they leave there:
+//! the key and of the message's last 16 bytes they leave there:
 //!
 //!     cargo run --release -p measure --bin stack
 //!
@@ -12,7 +12,7 @@ use measure::stack::run;
 fn main() {
     let empty = run(|| {}).depth();
     println!(
-        "| variant | operation | message | contender | stack bytes | copies of the key left | copies of 16 message bytes left |"
+        "| variant | operation | message | contender | stack bytes | copies of the key left | copies of the message's last 16 bytes left |"
     );
     println!("|---:|---|---:|---|---:|---:|---:|");
     for variant in 0..VARIANTS.len() {
@@ -20,12 +20,12 @@ fn main() {
             for length in [64, 1 << 10] {
                 for contender in Contender::ALL {
                     let mut job = Job::new(variant, operation, 32, length);
+                    if operation == Operation::Open {
+                        job.run(Contender::Rust);
+                    }
                     let message = match operation {
-                        Operation::Seal => job.input[..16].to_vec(),
-                        Operation::Open => {
-                            job.run(Contender::Rust);
-                            job.output[..16].to_vec()
-                        }
+                        Operation::Seal => job.input[length - 16..].to_vec(),
+                        Operation::Open => job.output[length - 16..].to_vec(),
                     };
                     let left = run(|| job.run(contender));
                     println!(
