@@ -7,10 +7,13 @@ use std::env;
 use std::path::{Path, PathBuf};
 use std::process::exit;
 
+#[path = "../archive.rs"]
+mod archive;
 #[path = "../oracle/tc_sparkle_aead/cut.rs"]
 mod cut;
 
 fn main() {
+    let link = || archive::link("sparkle_bench", "SPARKLE_BENCH_DIR", repository());
     if let Err(message) = scalar().and_then(|()| link()) {
         eprintln!("cannot build the benchmark: {message}");
         exit(1);
@@ -23,21 +26,6 @@ fn scalar() -> Result<(), String> {
     println!("cargo:rerun-if-changed={}", engine.display());
     let out = env::var_os("OUT_DIR").expect("cargo sets OUT_DIR");
     cut::write_scalar(&engine, Path::new(&out))
-}
-
-/// Names the archive to the linker.
-fn link() -> Result<(), String> {
-    println!("cargo:rerun-if-env-changed=SPARKLE_BENCH_DIR");
-    let folder = env::var_os("SPARKLE_BENCH_DIR")
-        .map_or_else(|| repository().join("target/staticlib"), PathBuf::from);
-    let archive = folder.join("libsparkle_bench.a");
-    println!("cargo:rerun-if-changed={}", archive.display());
-    if !archive.is_file() {
-        return Err(format!("the archive {} is not there", archive.display()));
-    }
-    println!("cargo:rustc-link-search=native={}", folder.display());
-    println!("cargo:rustc-link-lib=static=sparkle_bench");
-    Ok(())
 }
 
 /// The repository's root.

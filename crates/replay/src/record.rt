@@ -1,5 +1,5 @@
 // A record of the file of call lists: its head of 38 bytes, and the runs of bytes after it. All
-// numbers are little-endian; rust/replay/src/recorder.rs has the layout.
+// numbers are little-endian; rust/replay/src/file.rs has the layout.
 ghost use mathlib.Core.Bool.{true};
 ghost use mathlib.Core.Path.{_≡_};
 ghost use Prim.Native.Nat.{_+_, _≤_};

@@ -2,15 +2,13 @@
 //! `replay` of the port: `cargo run --release -p replay > FILE`, or with the
 //! file's path as the argument. Every run writes the same bytes;
 //! crates/replay/data/lists is one. What the lists hold is counted on standard
-//! error. `recorder.rs` has the layout of the file.
-
-mod random;
-mod recorder;
-mod scenes;
+//! error. `file.rs` has the layout of the file.
 
 use std::io::Write;
 
-use recorder::Recorder;
+use replay::file::file;
+use replay::recorder::{Contents, Counts, Recorder};
+use replay::scenes;
 
 /// The names of the phases with their directions, in `places`' order.
 const PLACES: [&str; 9] = [
@@ -26,8 +24,9 @@ const PLACES: [&str; 9] = [
 ];
 
 fn record() -> Recorder {
-    let mut r = Recorder::new(0x5343_4857_4145_4d4d);
+    let mut r = Recorder::new(0x5343_4857_4145_4d4d, Contents::OneByte);
     scenes::all(&mut r);
+    scenes::known_answers(&mut r);
     r
 }
 
@@ -39,23 +38,24 @@ fn sums<const N: usize>(by_variant: [[usize; N]; 4]) -> [usize; N] {
 
 /// Says what the lists hold, and stops where a variant lacks an answer, or a
 /// call in a phase and direction.
-fn count(r: &Recorder) {
-    eprintln!("lists {} calls {}", r.lists, r.calls);
-    eprintln!("answers 0 (ok) to 11: {:?}", sums(r.codes));
-    eprintln!("ends in opening Aad, by document 01: {}", r.by_document);
+fn say(counts: &Counts) {
+    eprintln!("lists {} calls {}", counts.lists, counts.calls);
+    eprintln!("answers 0 (ok) to 11: {:?}", sums(counts.codes));
+    let [ends, panics] = counts.by_document;
+    eprintln!("ends in opening Aad, by document 01: {ends}; the Rust panics at {panics} of them");
     eprintln!("calls by kind 1 to 8, in");
     for (i, name) in PLACES.iter().enumerate() {
-        let kinds = r
-            .places
-            .map(|places| std::array::from_fn(|k| places[i][k + 1]));
-        eprintln!("  {name}: {:?}", sums::<8>(kinds));
+        eprintln!(
+            "  {name}: {:?}",
+            sums(counts.places.map(|places| places[i]))
+        );
     }
 }
 
 fn main() -> std::io::Result<()> {
-    let r = record();
-    count(&r);
-    let file = r.finish();
+    let mut r = record();
+    say(&r.counts);
+    let file = file(&r.take());
     match std::env::args_os().nth(1) {
         Some(path) => std::fs::write(path, file),
         None => std::io::stdout().write_all(&file),
@@ -71,6 +71,6 @@ mod tests {
             env!("CARGO_MANIFEST_DIR"),
             "/../../crates/replay/data/lists"
         );
-        assert!(std::fs::read(path).unwrap() == super::record().finish());
+        assert!(std::fs::read(path).unwrap() == super::file(&super::record().take()));
     }
 }

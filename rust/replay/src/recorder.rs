@@ -1,39 +1,12 @@
-//! Calls on the Rust's engine, each written down with what it answered.
-//!
-//! The file is a row of records, all numbers little-endian. A record is a head
-//! of 38 bytes and then five runs of bytes:
-//!
-//! | bytes of the head | what |
-//! |---|---|
-//! | 0 | kind: 0 a new list, 1 init, 2 process_aad_bytes, 3 process_bytes, 4 do_final, 5 reset, 6 mac, 7 update_output_len, 8 output_len, 9 the end of the file |
-//! | 1 | a new list's variant, 1 to 4; init's direction, 0 sealing, 1 opening |
-//! | 2 | the byte that fills the output before the call |
-//! | 3 | the answer: 0 ok, or document 01's number of the refusal |
-//! | 4..12 | init's tag size, a query's length; at the end of the file, the lists |
-//! | 12..20 | the answer's count or first value; at the end of the file, the calls |
-//! | 20..28 | the answer's second value |
-//! | 28..38 | five lengths of 16 bits: key, nonce, input, output, tag |
-//!
-//! The runs have those lengths: init's key and nonce, the input (init's header),
-//! the whole output as the call left it, and the tag that can be read after the
-//! call (empty: none). What a kind does not use is 0 or empty.
+//! Calls on the Rust's engine, each kept with what it answered. What the Rust
+//! does not show is followed by document 01: the phase, and the steps of the
+//! current message, by the formula over the lengths of header and data.
 
-use tc_aead_cipher::{AeadCipher, AeadCipherInit, AeadError, AeadInitError, AeadParamsRef};
-use tc_block_cipher::CipherDirection;
+use tc_aead_cipher::AeadCipher;
 use tc_sparkle_aead::{SparkleEngine, SparkleVariant};
 
+use crate::calls::{Answer, Call, PANICKED, Start, VARIANTS, ask, no, variant_number};
 use crate::random::Random;
-
-/// The longest run of bytes that the program of the port has room for.
-pub const LONGEST: usize = 1024;
-
-/// The variants in document 01's order.
-pub const VARIANTS: [SparkleVariant; 4] = [
-    SparkleVariant::Schwaemm128_128,
-    SparkleVariant::Schwaemm256_128,
-    SparkleVariant::Schwaemm192_192,
-    SparkleVariant::Schwaemm256_256,
-];
 
 /// A message's phase, without its direction.
 #[derive(Clone, Copy, Debug, PartialEq, Eq)]
@@ -45,42 +18,57 @@ pub enum Phase {
     Final,
 }
 
-/// An answer by document 01's numbers.
-#[derive(Clone, Copy, Debug, PartialEq, Eq)]
-pub struct Answer {
-    pub code: u8,
-    pub values: [usize; 2],
+/// What outputs hold before a call.
+#[derive(Clone, Copy, PartialEq, Eq)]
+pub enum Contents {
+    /// One byte, not 0, over and over.
+    OneByte,
+    /// Random bytes, none of them 0.
+    Random,
 }
 
-/// What init is called with.
-#[derive(Clone)]
-pub struct Start {
-    pub opening: bool,
-    pub key: Vec<u8>,
-    pub nonce: Vec<u8>,
-    pub size: usize,
-    pub header: Vec<u8>,
+/// A call and all that came of it.
+pub struct Played {
+    pub call: Call,
+    /// The answer that the port has to give.
+    pub answer: Answer,
+    /// The Rust's own answer: another one at a listed difference alone.
+    pub original: Answer,
+    /// The whole output after the call.
+    pub output: Vec<u8>,
+    /// The tag that can be read after the call.
+    pub tag: Option<Vec<u8>>,
+    /// The steps of the current message after the call, by document 01.
+    pub steps: u64,
 }
 
-/// A record's parts; those that a kind does not use stay as `default` has them.
-#[derive(Default)]
-struct Record<'a> {
-    kind: u8,
-    way: u8,
-    fill: u8,
-    number: usize,
-    key: &'a [u8],
-    nonce: &'a [u8],
-    input: &'a [u8],
-    output: &'a [u8],
+/// A list of calls on a new engine.
+pub struct List {
+    pub variant: SparkleVariant,
+    pub calls: Vec<Played>,
 }
 
-/// The engine, what is known of it, and the records so far.
+/// The engine, what is known of it, and the lists so far.
 pub struct Recorder {
     pub random: Random,
+    pub contents: Contents,
     pub variant: SparkleVariant,
     pub phase: Phase,
     pub opening: bool,
+    /// The last start that was taken, and the header and the data since.
+    pub start: Option<Start>,
+    pub header: Vec<u8>,
+    pub data: usize,
+    pub counts: Counts,
+    engine: SparkleEngine,
+    initial: Phase,
+    ended: u64,
+    lists: Vec<List>,
+}
+
+/// What all lists hold together.
+#[derive(Clone, Copy)]
+pub struct Counts {
     pub lists: usize,
     pub calls: usize,
     /// How many calls answered each of document 01's numbers (0: ok), by
@@ -88,95 +76,66 @@ pub struct Recorder {
     pub codes: [[usize; 12]; 4],
     /// How many calls of each kind there are in each phase and direction, by
     /// variant.
-    pub places: [[[usize; 9]; 9]; 4],
-    /// Ends in opening Aad, whose answers are document 01's.
-    pub by_document: usize,
-    engine: SparkleEngine,
-    initial: Phase,
-    file: Vec<u8>,
+    pub places: [[[usize; 8]; 9]; 4],
+    /// Ends in opening Aad, whose answers are document 01's, and how many of
+    /// them the Rust panicked at.
+    pub by_document: [usize; 2],
 }
 
-fn ok(count: usize) -> Answer {
-    Answer {
-        code: 0,
-        values: [count, 0],
+/// A variant's slim and big steps, which the Rust keeps to itself.
+fn slim_and_big(variant: SparkleVariant) -> (usize, usize) {
+    match variant {
+        SparkleVariant::Schwaemm128_128 => (7, 10),
+        SparkleVariant::Schwaemm256_128 | SparkleVariant::Schwaemm192_192 => (7, 11),
+        SparkleVariant::Schwaemm256_256 => (8, 12),
     }
-}
-
-fn no(code: u8, first: usize, second: usize) -> Answer {
-    Answer {
-        code,
-        values: [first, second],
-    }
-}
-
-/// Document 01's number and values of an answer.
-fn number_of(answer: Result<usize, AeadError>) -> Answer {
-    match answer {
-        Ok(count) => ok(count),
-        Err(AeadError::OutputTooShort {
-            required,
-            available,
-        }) => no(4, required, available),
-        Err(AeadError::CiphertextTooShort { minimum, actual }) => no(5, minimum, actual),
-        Err(AeadError::AuthenticationFailed) => no(6, 0, 0),
-        Err(AeadError::InputTooLong) => no(7, 0, 0),
-        Err(AeadError::NotInitialized) => no(8, 0, 0),
-        Err(AeadError::AadAfterData) => no(9, 0, 0),
-        Err(AeadError::AlreadyFinalized) => no(10, 0, 0),
-        Err(other) => panic!("document 01 leaves out {other:?}"),
-    }
-}
-
-/// Document 01's number and value of an init's answer.
-fn start_number_of(answer: Result<(), AeadInitError>) -> Answer {
-    match answer {
-        Ok(()) => ok(0),
-        Err(AeadInitError::InvalidKeyLength { actual }) => no(1, actual, 0),
-        Err(AeadInitError::InvalidNonceLength { actual }) => no(2, actual, 0),
-        Err(AeadInitError::InvalidMacSize { actual }) => no(3, actual, 0),
-        Err(AeadInitError::NonceReuse) => no(11, 0, 0),
-        Err(other) => panic!("document 01 leaves out {other:?}"),
-    }
-}
-
-fn direction(opening: bool) -> CipherDirection {
-    if opening {
-        CipherDirection::Decrypt
-    } else {
-        CipherDirection::Encrypt
-    }
-}
-
-/// What the Rust's engine seals a message to; nothing is written down.
-pub fn sealed(variant: SparkleVariant, start: &Start, header: &[u8], message: &[u8]) -> Vec<u8> {
-    let params = AeadParamsRef::new(&start.key, &start.nonce, start.size, &start.header);
-    let mut engine = SparkleEngine::new(variant);
-    engine.init(CipherDirection::Encrypt, &params).unwrap();
-    engine.process_aad_bytes(header).unwrap();
-    let mut out = vec![0; engine.output_len(message.len()).unwrap()];
-    let n = engine.process_bytes(message, &mut out).unwrap();
-    let rest = engine.do_final(&mut out[n..]).unwrap();
-    assert_eq!(n + rest, out.len());
-    out
 }
 
 impl Recorder {
-    pub fn new(seed: u64) -> Self {
+    pub fn new(seed: u64, contents: Contents) -> Self {
         Recorder {
             random: Random(seed),
+            contents,
             variant: VARIANTS[0],
             phase: Phase::Uninitialized,
             opening: false,
-            lists: 0,
-            calls: 0,
-            codes: [[0; 12]; 4],
-            places: [[[0; 9]; 9]; 4],
-            by_document: 0,
+            start: None,
+            header: Vec::new(),
+            data: 0,
+            counts: Counts {
+                lists: 0,
+                calls: 0,
+                codes: [[0; 12]; 4],
+                places: [[[0; 8]; 9]; 4],
+                by_document: [0; 2],
+            },
             engine: SparkleEngine::new(VARIANTS[0]),
             initial: Phase::Uninitialized,
-            file: Vec::new(),
+            ended: 0,
+            lists: Vec::new(),
         }
+    }
+
+    /// A new engine, and a new list for what it is asked.
+    pub fn list(&mut self, variant: SparkleVariant) {
+        self.variant = variant;
+        self.engine = SparkleEngine::new(variant);
+        self.phase = Phase::Uninitialized;
+        self.initial = Phase::Uninitialized;
+        self.opening = false;
+        self.start = None;
+        self.header.clear();
+        self.data = 0;
+        self.counts.lists += 1;
+        self.lists.push(List {
+            variant,
+            calls: Vec::new(),
+        });
+    }
+
+    /// The lists so far, which are forgotten here.
+    pub fn take(&mut self) -> Vec<List> {
+        std::mem::take(&mut self.lists)
     }
 
     pub fn rate(&self) -> usize {
@@ -187,27 +146,74 @@ impl Recorder {
         self.variant.tag_bytes()
     }
 
-    fn write(&mut self, record: &Record, answer: Answer) {
-        let tag = self.engine.mac().unwrap_or_default().to_vec();
-        let runs = [record.key, record.nonce, record.input, record.output, &tag];
-        let numbers = [record.number, answer.values[0], answer.values[1]];
-        self.file
-            .extend([record.kind, record.way, record.fill, answer.code]);
-        for number in numbers {
-            self.file.extend((number as u64).to_le_bytes());
-        }
-        for run in runs {
-            assert!(run.len() <= LONGEST);
-            self.file.extend((run.len() as u16).to_le_bytes());
-        }
-        for run in runs {
-            self.file.extend(run);
-        }
+    /// Makes a call and keeps it.
+    pub fn call(&mut self, call: Call) -> &Played {
+        let (original, output) = ask(&mut self.engine, &call);
+        let (answer, output) = if self.by_document(&call) {
+            (self.end_by_document(original), call.output().to_vec())
+        } else {
+            (original, output)
+        };
+        self.count(&call, answer);
+        self.follow(&call, answer);
+        let played = Played {
+            answer,
+            original,
+            output,
+            tag: self.engine.mac().map(<[u8]>::to_vec),
+            steps: self.steps() as u64,
+            call,
+        };
+        let list = self.lists.last_mut().expect("a list has begun");
+        list.calls.push(played);
+        list.calls.last().unwrap()
     }
 
-    /// The variant's place in `VARIANTS`.
-    fn number(&self) -> usize {
-        VARIANTS.iter().position(|v| *v == self.variant).unwrap()
+    /// Whether the call is one where port and Rust are known to differ: an end
+    /// in opening Aad (docs/DIFFERENCES.md).
+    fn by_document(&self, call: &Call) -> bool {
+        self.opening && self.phase == Phase::Aad && matches!(call, Call::End { .. })
+    }
+
+    /// Document 01's answer to an end in opening Aad. The Rust has to have
+    /// answered as docs/DIFFERENCES.md says; its engine is made again without
+    /// that call.
+    fn end_by_document(&mut self, original: Answer) -> Answer {
+        let (tag, held) = (self.tag(), (self.header.len() - 1) % self.rate() + 1);
+        let listed = if held < tag {
+            no(5, tag, held)
+        } else {
+            no(PANICKED, 0, 0)
+        };
+        assert_eq!(original, listed, "an end in opening Aad, {held} bytes held");
+        self.counts.by_document[0] += 1;
+        self.counts.by_document[1] += usize::from(original.code == PANICKED);
+        self.engine = SparkleEngine::new(self.variant);
+        for earlier in &self.lists.last().expect("a list has begun").calls {
+            if earlier.answer == earlier.original {
+                ask(&mut self.engine, &earlier.call);
+            }
+        }
+        no(5, tag, 0)
+    }
+
+    fn count(&mut self, call: &Call, answer: Answer) {
+        let variant = usize::from(variant_number(self.variant)) - 1;
+        let kind = match call {
+            Call::Init(_) => 0,
+            Call::Aad { .. } => 1,
+            Call::Data { .. } => 2,
+            Call::End { .. } => 3,
+            Call::Reset => 4,
+            Call::Mac => 5,
+            Call::UpdateOutputLen(_) => 6,
+            Call::OutputLen(_) => 7,
+        };
+        self.counts.calls += 1;
+        self.counts.places[variant][self.place()][kind] += 1;
+        if let Some(count) = self.counts.codes[variant].get_mut(usize::from(answer.code)) {
+            *count += 1;
+        }
     }
 
     /// Which of the nine phases with their directions this is.
@@ -221,88 +227,117 @@ impl Recorder {
         }
     }
 
-    /// Writes a call down and goes to the phase after it.
-    fn call(&mut self, record: &Record, answer: Answer, next: Phase) -> Answer {
-        self.calls += 1;
-        let (variant, place) = (self.number(), self.place());
-        self.codes[variant][usize::from(answer.code)] += 1;
-        self.places[variant][place][usize::from(record.kind)] += 1;
-        self.phase = next;
-        self.write(record, answer);
-        answer
+    /// Goes to the phase after a call, and keeps what a start, a header and
+    /// data bring.
+    fn follow(&mut self, call: &Call, answer: Answer) {
+        match (call, answer.code) {
+            (Call::Init(start), 0) => {
+                self.opening = start.opening;
+                self.initial = if start.header.is_empty() {
+                    Phase::Init
+                } else {
+                    Phase::Aad
+                };
+                self.start = Some(start.clone());
+                self.begin();
+            }
+            (Call::Init(_), _) => {
+                self.phase = Phase::Uninitialized;
+                self.start = None;
+                self.header.clear();
+                self.data = 0;
+            }
+            (Call::Aad { input }, 0) if !input.is_empty() => {
+                self.header.extend(input);
+                self.phase = Phase::Aad;
+            }
+            (Call::Data { input, .. }, 0) => {
+                self.data += input.len();
+                self.phase = Phase::Data;
+            }
+            (Call::End { .. }, 0 | 6) => {
+                let tag = if self.opening { self.tag() } else { 0 };
+                self.ended = (self.begun() + self.whole(self.data - tag)) as u64;
+                self.phase = Phase::Final;
+            }
+            (Call::Reset, _) => match (self.phase, self.opening) {
+                (Phase::Uninitialized, _) => {}
+                (Phase::Data | Phase::Final, false) => {
+                    self.begin();
+                    self.ended = self.steps() as u64;
+                    self.phase = Phase::Final;
+                }
+                _ => self.begin(),
+            },
+            _ => {}
+        }
     }
 
-    /// A new engine.
-    pub fn list(&mut self, variant: SparkleVariant) {
-        self.variant = variant;
-        self.engine = SparkleEngine::new(variant);
-        self.phase = Phase::Uninitialized;
-        self.initial = Phase::Uninitialized;
-        self.opening = false;
-        self.lists += 1;
-        let record = Record {
-            way: 1 + self.number() as u8,
-            ..Record::default()
-        };
-        self.write(&record, ok(0));
+    /// Back to the point after init.
+    fn begin(&mut self) {
+        let start = self.start.as_ref().expect("a start was taken");
+        self.header.clone_from(&start.header);
+        self.data = 0;
+        self.phase = self.initial;
+    }
+
+    /// The steps of a whole header or message of n bytes.
+    fn whole(&self, n: usize) -> usize {
+        let (slim, big) = slim_and_big(self.variant);
+        if n == 0 {
+            0
+        } else {
+            (n.div_ceil(self.rate()) - 1) * slim + big
+        }
+    }
+
+    /// The steps of n bytes of a header or message while its last block is
+    /// held back.
+    fn so_far(&self, n: usize) -> usize {
+        n.saturating_sub(1) / self.rate() * slim_and_big(self.variant).0
+    }
+
+    /// The steps of a start and a whole header.
+    fn begun(&self) -> usize {
+        slim_and_big(self.variant).1 + self.whole(self.header.len())
+    }
+
+    /// The steps of the current message: big, plus for a header, and again for
+    /// a message, (blocks - 1) x slim + big where it is not empty, added as the
+    /// permutations run.
+    fn steps(&self) -> usize {
+        let tag = if self.opening { self.tag() } else { 0 };
+        let big = slim_and_big(self.variant).1;
+        match self.phase {
+            Phase::Uninitialized => 0,
+            Phase::Init => big,
+            Phase::Aad => big + self.so_far(self.header.len()),
+            Phase::Data => self.begun() + self.so_far(self.data.saturating_sub(tag)),
+            Phase::Final => self.ended as usize,
+        }
+    }
+
+    /// An output of `room` bytes before a call.
+    fn output(&mut self, room: usize) -> Vec<u8> {
+        match self.contents {
+            Contents::OneByte => vec![self.random.fill(); room],
+            Contents::Random => (0..room).map(|_| self.random.fill()).collect(),
+        }
     }
 
     pub fn init(&mut self, start: &Start) -> Answer {
-        let params = AeadParamsRef::new(&start.key, &start.nonce, start.size, &start.header);
-        let answer = start_number_of(self.engine.init(direction(start.opening), &params));
-        let next = match (answer.code, start.header.is_empty()) {
-            (0, true) => Phase::Init,
-            (0, false) => Phase::Aad,
-            _ => Phase::Uninitialized,
-        };
-        self.initial = next;
-        let record = Record {
-            kind: 1,
-            way: u8::from(start.opening),
-            number: start.size,
-            key: &start.key,
-            nonce: &start.nonce,
-            input: &start.header,
-            ..Record::default()
-        };
-        let answer = self.call(&record, answer, next);
-        self.opening = start.opening;
-        answer
+        self.call(Call::Init(start.clone())).answer
     }
 
     pub fn aad(&mut self, input: &[u8]) -> Answer {
-        let answer = number_of(self.engine.process_aad_bytes(input).map(|()| 0));
-        let next = match (answer.code, input.is_empty()) {
-            (0, false) => Phase::Aad,
-            _ => self.phase,
-        };
-        let record = Record {
-            kind: 2,
-            input,
-            ..Record::default()
-        };
-        self.call(&record, answer, next)
+        let input = input.to_vec();
+        self.call(Call::Aad { input }).answer
     }
 
     /// A data call with `room` bytes of output, and what it wrote.
     pub fn data(&mut self, input: &[u8], room: usize) -> (Answer, Vec<u8>) {
-        let fill = self.random.fill();
-        let mut output = vec![fill; room];
-        let answer = number_of(self.engine.process_bytes(input, &mut output));
-        let next = if answer.code == 0 {
-            Phase::Data
-        } else {
-            self.phase
-        };
-        let record = Record {
-            kind: 3,
-            fill,
-            input,
-            output: &output,
-            ..Record::default()
-        };
-        self.call(&record, answer, next);
-        (answer, output[..written(answer)].to_vec())
+        let (input, output) = (input.to_vec(), self.output(room));
+        written(self.call(Call::Data { input, output }))
     }
 
     /// A data call with the output that it needs.
@@ -310,40 +345,20 @@ impl Recorder {
         self.data(input, self.needed(input.len()))
     }
 
-    /// What a data call of n bytes needs; nothing is written down.
+    /// What a data call of n bytes needs; the question is not kept.
     pub fn needed(&self, n: usize) -> usize {
         self.engine.update_output_len(n).unwrap()
     }
 
-    /// What an end needs; nothing is written down.
+    /// What an end needs; the question is not kept.
     pub fn needed_at_end(&self) -> usize {
         self.engine.output_len(0).unwrap()
     }
 
-    /// An end with `room` bytes of output, and what it wrote. In opening Aad
-    /// the Rust tests the held header for ciphertext (docs/DIFFERENCES.md): it
-    /// is not called, and document 01's answer is written down.
+    /// An end with `room` bytes of output, and what it wrote.
     pub fn end(&mut self, room: usize) -> (Answer, Vec<u8>) {
-        let fill = self.random.fill();
-        let mut output = vec![fill; room];
-        let answer = if self.opening && self.phase == Phase::Aad {
-            self.by_document += 1;
-            no(5, self.tag(), 0)
-        } else {
-            number_of(self.engine.do_final(&mut output))
-        };
-        let next = match answer.code {
-            0 | 6 => Phase::Final,
-            _ => self.phase,
-        };
-        let record = Record {
-            kind: 4,
-            fill,
-            output: &output,
-            ..Record::default()
-        };
-        self.call(&record, answer, next);
-        (answer, output[..written(answer)].to_vec())
+        let output = self.output(room);
+        written(self.call(Call::End { output }))
     }
 
     /// An end with the output that it needs.
@@ -352,60 +367,22 @@ impl Recorder {
     }
 
     pub fn reset(&mut self) {
-        self.engine.reset();
-        let next = match (self.phase, self.opening) {
-            (Phase::Uninitialized, _) => Phase::Uninitialized,
-            (Phase::Data | Phase::Final, false) => Phase::Final,
-            _ => self.initial,
-        };
-        let record = Record {
-            kind: 5,
-            ..Record::default()
-        };
-        self.call(&record, ok(0), next);
+        self.call(Call::Reset);
     }
 
     pub fn mac(&mut self) {
-        let answer = ok(self.engine.mac().unwrap_or_default().len());
-        let record = Record {
-            kind: 6,
-            ..Record::default()
-        };
-        self.call(&record, answer, self.phase);
+        self.call(Call::Mac);
     }
 
     /// Both queries.
     pub fn lengths(&mut self, number: usize) {
-        let update = number_of(self.engine.update_output_len(number));
-        let total = number_of(self.engine.output_len(number));
-        for (kind, answer) in [(7, update), (8, total)] {
-            let record = Record {
-                kind,
-                number,
-                ..Record::default()
-            };
-            self.call(&record, answer, self.phase);
-        }
-    }
-
-    /// The file, with its last record.
-    pub fn finish(mut self) -> Vec<u8> {
-        self.engine = SparkleEngine::new(VARIANTS[0]);
-        let record = Record {
-            kind: 9,
-            number: self.lists,
-            ..Record::default()
-        };
-        self.write(&record, ok(self.calls));
-        self.file
+        self.call(Call::UpdateOutputLen(number));
+        self.call(Call::OutputLen(number));
     }
 }
 
-/// How many bytes a data call or an end has written.
-fn written(answer: Answer) -> usize {
-    if answer.code == 0 {
-        answer.values[0]
-    } else {
-        0
-    }
+/// A call's answer, and what it wrote.
+fn written(played: &Played) -> (Answer, Vec<u8>) {
+    let n = played.answer.written();
+    (played.answer, played.output[..n].to_vec())
 }

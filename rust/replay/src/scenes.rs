@@ -2,7 +2,9 @@
 
 use tc_sparkle_aead::SparkleVariant;
 
-use crate::recorder::{Phase, Recorder, Start, VARIANTS, sealed};
+use crate::calls::{Start, VARIANTS, sealed};
+use crate::kat::{self, ENTRIES};
+use crate::recorder::{Phase, Recorder};
 
 /// The phases that a list can be brought to.
 const PHASES: [Phase; 5] = [
@@ -13,7 +15,7 @@ const PHASES: [Phase; 5] = [
     Phase::Final,
 ];
 
-/// Everything, in a fixed order.
+/// Everything but the known answers, in a fixed order.
 pub fn all(r: &mut Recorder) {
     for variant in VARIANTS {
         round_trips(r, variant);
@@ -28,6 +30,37 @@ pub fn all(r: &mut Recorder) {
         without_data(r, variant);
         for _ in 0..20 {
             walk(r, variant);
+        }
+    }
+}
+
+/// Ten entries of each known-answer file, the first and the last among them,
+/// sealed and opened in pieces. Each has to come out as the file says.
+pub fn known_answers(r: &mut Recorder) {
+    for variant in VARIANTS {
+        let entries = kat::entries(variant);
+        for turn in 0..10 {
+            let entry = &entries[turn * (ENTRIES - 1) / 9];
+            let initial = if turn % 2 == 0 { 0 } else { entry.header.len() };
+            let (first, later) = entry.header.split_at(initial);
+            r.list(variant);
+            let seal = Start {
+                opening: false,
+                key: entry.key.clone(),
+                nonce: entry.nonce.clone(),
+                size: r.tag(),
+                header: first.to_vec(),
+            };
+            r.init(&seal);
+            let mut packet = feed(r, later, &entry.message);
+            packet.extend(r.end_exact().1);
+            assert_eq!(packet, entry.packet);
+            r.mac();
+            r.init(&opening(&seal));
+            let mut message = feed(r, later, &entry.packet);
+            message.extend(r.end_exact().1);
+            assert_eq!(message, entry.message);
+            r.mac();
         }
     }
 }

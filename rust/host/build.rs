@@ -1,0 +1,16 @@
+//! Links the port's archive `libhost.a`, which is looked for in the
+//! repository's target/staticlib, or in the folder that `HOST_DIR` names.
+
+use std::path::Path;
+use std::process::exit;
+
+#[path = "../archive.rs"]
+mod archive;
+
+fn main() {
+    let repository = Path::new(env!("CARGO_MANIFEST_DIR")).join("../..");
+    if let Err(message) = archive::link("host", "HOST_DIR", repository) {
+        eprintln!("cannot link the port: {message}");
+        exit(1);
+    }
+}

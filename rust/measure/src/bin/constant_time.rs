@@ -1,0 +1,188 @@
+//! Sealing and opening with contents that memcheck takes for undefined: it then
+//! reports every jump and every address that depends on them. tools/constant-time
+//! runs this program under it. Keys, nonces, headers, messages and packets are
+//! undefined; lengths, the variant and the heads of a list are not.
+//!
+//! Each line is a case: its name, how many reports are expected (`none`, or
+//! `some` where an answer depends on contents by design), and how many came.
+
+use std::hint::black_box;
+use std::process::ExitCode;
+
+use host::{Direction, List, Packet};
+use measure::contenders::{Job, Operation, VARIANTS};
+use measure::valgrind::{errors, make_defined, make_undefined, running};
+
+/// What a case may have.
+#[derive(Clone, Copy, PartialEq)]
+enum Expected {
+    None,
+    Some,
+}
+
+/// Runs a case, says how many reports came, and whether they may.
+fn case(name: &str, expected: Expected, f: impl FnOnce()) -> bool {
+    let before = errors();
+    f();
+    let reports = errors() - before;
+    let word = match expected {
+        Expected::None => "none",
+        Expected::Some => "some",
+    };
+    println!("{name}: expected {word}, reports {reports}");
+    (reports > 0) == (expected == Expected::Some)
+}
+
+/// A jump that depends on a secret, which has to be reported.
+#[inline(never)]
+fn planted_jump(secret: &[u8]) {
+    if black_box(secret)[3] > 7 {
+        black_box(());
+    }
+}
+
+/// An address that depends on a secret, which has to be reported.
+#[inline(never)]
+fn planted_address(secret: &[u8], table: &[u8; 256]) {
+    black_box(black_box(table)[usize::from(black_box(secret)[3])]);
+}
+
+/// The two controls: without their reports, silence says nothing.
+fn controls() -> bool {
+    let (secret, table) = (vec![1_u8; 16], [2_u8; 256]);
+    make_undefined(&secret);
+    let jump = case("control, a planted jump", Expected::Some, || {
+        planted_jump(&secret)
+    });
+    let address = case("control, a planted address", Expected::Some, || {
+        planted_address(&secret, &table);
+    });
+    jump && address
+}
+
+/// One packet at once.
+fn packet(variant: usize, operation: Operation, length: usize, damaged: bool) -> bool {
+    let mut job = Job::new(variant, operation, 37, length);
+    if damaged {
+        *job.input.last_mut().expect("a tag") ^= 1;
+    }
+    for bytes in [&job.key, &job.nonce, &job.header, &job.input] {
+        make_undefined(bytes);
+    }
+    let expected = match operation {
+        Operation::Seal => Expected::None,
+        Operation::Open => Expected::Some,
+    };
+    let what = if damaged {
+        "a damaged packet"
+    } else {
+        "a packet"
+    };
+    let name = format!(
+        "variant {}, {} {what} of {length}",
+        variant + 1,
+        operation.name()
+    );
+    case(&name, expected, || {
+        let packet = Packet {
+            variant: variant as u8 + 1,
+            key: &job.key,
+            nonce: &job.nonce,
+            header: &job.header,
+            message: &job.input,
+        };
+        match operation {
+            Operation::Seal => black_box(host::seal(packet, &mut job.output)),
+            Operation::Open => black_box(host::open(packet, &mut job.output)),
+        };
+    })
+}
+
+/// Which start comes after a sealed message.
+#[derive(Clone, Copy)]
+enum Second {
+    None,
+    SamePair,
+    OtherKey,
+    OtherNonce,
+}
+
+/// A list: a message sealed in pieces, a reset, queries, the tag, and perhaps
+/// another start for sealing.
+fn list(variant: usize, second: Second) -> bool {
+    let sizes = VARIANTS[variant];
+    let (key, nonce) = (vec![1; sizes.key_bytes()], vec![2; sizes.nonce_bytes()]);
+    let size = sizes.tag_bytes() as u64;
+    let mut list = List::new(variant as u8 + 1);
+    let mut secrets = Vec::new();
+    let mut note = |list: &List, from_end: usize| {
+        secrets.push(list.bytes().len() - from_end..list.bytes().len());
+    };
+    list.init(Direction::Sealing, size, &key, &nonce, &[3; 20]);
+    note(&list, key.len() + nonce.len() + 20);
+    list.process_aad_bytes(&[4; 33]);
+    note(&list, 33);
+    for n in [1, 31, 32, 33, 70] {
+        list.process_bytes(&vec![5; n], &vec![6; n + 32]);
+        note(&list, n + n + 32);
+    }
+    list.update_output_len(7);
+    list.do_final(&[7; 64]);
+    note(&list, 64);
+    list.mac();
+    list.reset();
+    let (mut other_key, mut other_nonce) = (key.clone(), nonce.clone());
+    match second {
+        Second::None | Second::SamePair => {}
+        Second::OtherKey => other_key[0] ^= 1,
+        Second::OtherNonce => other_nonce[0] ^= 1,
+    }
+    let (expected, name) = match second {
+        Second::None => (Expected::None, "no second start"),
+        Second::SamePair => (Expected::Some, "the same pair again"),
+        Second::OtherKey => (Expected::Some, "another key"),
+        Second::OtherNonce => (Expected::Some, "another nonce"),
+    };
+    if !matches!(second, Second::None) {
+        list.init(Direction::Sealing, size, &other_key, &other_nonce, &[]);
+        note(&list, key.len() + nonce.len());
+    }
+    let mut answers = vec![0; list.answers_len()];
+    for secret in &secrets {
+        make_undefined(&list.bytes()[secret.clone()]);
+    }
+    let name = format!("variant {}, a list, {name}", variant + 1);
+    let fine = case(&name, expected, || {
+        black_box(host::run(list.bytes(), &mut answers));
+    });
+    make_defined(list.bytes());
+    fine
+}
+
+fn main() -> ExitCode {
+    if !running() {
+        eprintln!("this program looks for nothing outside memcheck: tools/constant-time");
+        return ExitCode::FAILURE;
+    }
+    let mut fine = controls();
+    for variant in 0..VARIANTS.len() {
+        for length in [0, 1, 64, 1000] {
+            fine &= packet(variant, Operation::Seal, length, false);
+            fine &= packet(variant, Operation::Open, length, false);
+            fine &= packet(variant, Operation::Open, length, true);
+        }
+        for second in [
+            Second::None,
+            Second::SamePair,
+            Second::OtherKey,
+            Second::OtherNonce,
+        ] {
+            fine &= list(variant, second);
+        }
+    }
+    if fine {
+        ExitCode::SUCCESS
+    } else {
+        ExitCode::FAILURE
+    }
+}

@@ -1,0 +1,9 @@
+//! What sealing and opening cost, port and Rust original side by side: time
+//! (`packets`), instructions (`instructions`), stack (`stack`). The port is
+//! called through its host boundary (docs/HOST.md). `constant_time` looks for
+//! jumps and addresses that depend on secrets.
+
+pub mod contenders;
+pub mod stack;
+pub mod table;
+pub mod valgrind;

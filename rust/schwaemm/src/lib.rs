@@ -1,0 +1,65 @@
+//! Schwaemm authenticated encryption by the proved engine of this repository,
+//! which is linked as the archive `libhost.a` (docs/HOST.md).
+//!
+//! ```
+//! use schwaemm::{Variant, open, seal};
+//!
+//! let variant = Variant::Schwaemm128_128;
+//! let key = [7; 16];
+//! let nonce = [9; 16]; // another one for every message under this key
+//! let packet = seal(variant, &key, &nonce, b"probe 12", b"nitrate 4.1")?;
+//! let message = open(variant, &key, &nonce, b"probe 12", &packet)?;
+//! assert_eq!(message, b"nitrate 4.1");
+//! # Ok::<(), schwaemm::Error>(())
+//! ```
+//!
+//! | to | take |
+//! |---|---|
+//! | seal or open a packet that is there as a whole | [`seal`], [`open`]; into a slice: [`seal_into`], [`open_into`] |
+//! | seal or open a message that comes in pieces, or learn its tag and steps | [`Message`] |
+//! | make any calls of an engine: resets, repeated starts, length queries | [`Calls`] |
+//!
+//! A refusal is an [`Error`] with document 01's number. Key, nonce and tag have
+//! the lengths that [`Variant`] gives.
+//!
+//! # What crosses the boundary
+//!
+//! Numbers and byte slices, nothing else. An engine lives inside one call of
+//! the archive: it begins new, and nothing of it is left when the call returns
+//! but the answers. So each function here stands alone, and may be called from
+//! any thread. A nonce that comes again in another call is not noticed; within
+//! one list of [`Calls`] it is, with 11.
+//!
+//! # What is copied
+//!
+//! The functions for one packet read and write the caller's slices in place.
+//! [`Message`] and [`Calls`] copy what they are given into a list, the key too;
+//! running it makes the answers, with every output, beside the list. For a
+//! message of n bytes that is up to 4n bytes while it runs.
+//!
+//! # What is wiped
+//!
+//! Lists and answers are overwritten with zeros when they are dropped, and
+//! when a list has to move as it grows, by writes that the compiler has to
+//! keep. Where opening fails, what could have been written of the message is
+//! overwritten too. After each call of the archive 8 KiB of the stack below the
+//! caller's are overwritten: an engine is a value there, and its copies hold
+//! key and state. That is more than the calls take (docs/PERFORMANCE.md), and
+//! as much as can be done from outside; nothing is proved of it.
+//!
+//! Not wiped: the slices that the caller lends, what is handed out, registers,
+//! and what the system made of any of these. Nothing is claimed of timing
+//! (docs/01-scope.md).
+
+mod calls;
+mod error;
+mod message;
+mod packet;
+mod stack;
+mod variant;
+
+pub use calls::{Answer, Calls, Direction};
+pub use error::Error;
+pub use message::{Finished, Message};
+pub use packet::{open, open_into, seal, seal_into};
+pub use variant::Variant;

@@ -1,0 +1,21 @@
+//! The archive's part of the stack, written over.
+
+use std::mem::MaybeUninit;
+use std::sync::atomic::{Ordering, compiler_fence};
+
+/// Words of eight bytes that are written over: 8 KiB, where the archive's calls
+/// take up to 6 KiB (docs/PERFORMANCE.md).
+const WORDS: usize = 1024;
+
+/// Writes zeros over the stack below the caller's, where a call of the archive
+/// that has just returned kept its engine.
+#[inline(never)]
+pub(crate) fn wipe() {
+    let mut words = MaybeUninit::<[u64; WORDS]>::uninit();
+    let first = words.as_mut_ptr().cast::<u64>();
+    for i in 0..WORDS {
+        // SAFETY: the word is one of the array's.
+        unsafe { first.add(i).write_volatile(0) };
+    }
+    compiler_fence(Ordering::SeqCst);
+}
