@@ -4,7 +4,7 @@ use mathlib.Core.Bool.{Bool, true, false, cond}
 use mathlib.Core.List.{List, [], _∷_, _++_, append-assoc, append-nil}
 use Prim.Native.Nat.{ℕ, zero, suc, _+_, _-_, _≤_, _<_}
 use native.Mathlib.Omega.{arith}
-use borrow.Author.Tests.{lt-ltb, le-ltb, leb-true, le-leb}
+use borrow.Author.Tests.{lt-ltb, le-ltb, ltb-false, leb-true}
 use lib.ListN.{length, take, drop, getD, length-drop, length-append, take-append-drop, drop-of-length-le}
 use lib.Dec.{leb, ltb}
 use lib.Seq.{take-at, take-all, drop-at, drop-drop, length-take-le}
@@ -17,7 +17,7 @@ use Rattle.host.specs.declared.call.Head.{Head}
 use Rattle.host.specs.declared.call.Read.{Read}
 use Rattle.host.specs.declared.call.Read.the-variants.{Malformed, Call as ReadCall}
 use Rattle.host.specs.declared.run.Stop.{Stop}
-use Rattle.host.specs.CallList.{headOf, callLength, wellFormed, readOf, callOf, shownLength, answerOf, Ran, stopped, answered, runCalls, variantOf, isVariant, runList}
+use Rattle.host.specs.CallList.{headOf, callLength, wellFormed, readOf, callOf, shownLength, answerOf, Ran, stopped, answered, runCalls, callsIn, answersOf, variantOf, isVariant, runList}
 
 -- ---- what was read
 
@@ -315,3 +315,52 @@ pub list-run : (list : List ℕ) (room : ℕ) (variant : SparkleVariant) (first 
     → runCalls (length list) (drop 1 list) first room ≡ runList list room
 unfolding runList
 list-run list room variant first is var new = rw (is, ← var, ← new) refl
+
+-- ---- the run as a whole
+
+-- One call's part of the definition: whether bytes are left, the call is well-formed, its answer fits.
+abbrev turn : Bool → Bool → Bool → List ℕ → List ℕ → Ran → Ran
+turn some well fits rest answer later =
+    cond some (cond well (cond fits (answered answer later) (stopped 22 rest)) (stopped 21 rest)) (stopped 0 rest)
+
+turn-answers : (s w f : Bool) (rest : List ℕ) (e : SparkleEngine) (c : Call) (calls : List Call) (later : Ran)
+    → (later .code ≡ 0 → later .answers ≡ answersOf (step e c .engine) calls) → turn s w f rest (answerOf e c) later .code ≡ 0
+    → turn s w f rest (answerOf e c) later .answers ≡ answersOf e (cond s (cond w (c ∷ calls) []) [])
+unfolding answersOf stopped answered
+turn-answers true true true rest e c calls later h q = ap (λ (l : List ℕ). answerOf e c ++ l) (h q)
+turn-answers true true false rest e c calls later h q = absurd (omega (arith, q))
+turn-answers true false f rest e c calls later h q = absurd (omega (arith, q))
+turn-answers false w f rest e c calls later h q = refl
+
+turn-left : (s w f : Bool) (rest answer : List ℕ) (later : Ran) → (s ≡ false → length rest ≡ 0) → (later .code ≡ 0 → later .left ≡ 0)
+    → turn s w f rest answer later .code ≡ 0 → turn s w f rest answer later .left ≡ 0
+unfolding stopped answered
+turn-left true true true rest answer later none h q = h q
+turn-left true true false rest answer later none h q = absurd (omega (arith, q))
+turn-left true false f rest answer later none h q = absurd (omega (arith, q))
+turn-left false w f rest answer later none h q = none refl
+
+-- Where the code is 0, what is written are the answers of the calls that the list has.
+pub run-is-answers : (k : ℕ) (rest : List ℕ) (e : SparkleEngine) (room : ℕ) → runCalls k rest e room .code ≡ 0
+    → runCalls k rest e room .answers ≡ answersOf e (callsIn k rest)
+unfolding runCalls callsIn answersOf stopped
+run-is-answers zero rest e room z = refl
+run-is-answers (suc k) rest e room z =
+    let h = headOf rest in
+    let c = callOf h (drop 33 rest) in
+    turn-answers (ltb 0 (length rest)) (wellFormed rest) (leb (34 + shownLength h) room) rest e c (callsIn k (drop (callLength h) rest)) _
+    (run-is-answers k (drop (callLength h) rest) (step e c .engine) (room - (34 + shownLength h))) z
+
+-- Where the code is 0, the whole list was read: the rest's length bounds its calls.
+pub run-reads-all : (k : ℕ) (rest : List ℕ) (e : SparkleEngine) (room : ℕ) → length rest ≤ k → runCalls k rest e room .code ≡ 0
+    → runCalls k rest e room .left ≡ 0
+unfolding runCalls stopped
+run-reads-all zero rest e room n z = omega arith
+run-reads-all (suc k) rest e room n z =
+    let h = headOf rest in
+    let c = callOf h (drop 33 rest) in
+    let a = length-drop (callLength h) rest in
+    let b = head-long h in
+    turn-left (ltb 0 (length rest)) (wellFormed rest) (leb (34 + shownLength h) room) rest (answerOf e c) _
+    (λ t. let r = ltb-false 0 (length rest) t in omega (arith, r))
+    (run-reads-all k (drop (callLength h) rest) (step e c .engine) (room - (34 + shownLength h)) (omega (arith, a, b))) z

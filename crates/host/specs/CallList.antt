@@ -138,6 +138,17 @@ runCalls (suc k) rest e room =
     (stopped 21 rest))
     (stopped 0 rest)
 
+-- The calls of the rest of a list, and the answers to a list of calls: what is written where the code is 0 (`run-is-answers`).
+unfoldable pub callsIn : ℕ → List ℕ → List Call
+callsIn zero rest = []
+callsIn (suc k) rest =
+    cond (ltb 0 (length rest))
+    (cond (wellFormed rest) (callOf (headOf rest) (drop 33 rest) ∷ callsIn k (drop (callLength (headOf rest)) rest)) []) []
+
+unfoldable pub answersOf : SparkleEngine → List Call → List ℕ
+answersOf e [] = []
+answersOf e (c ∷ calls) = answerOf e c ++ answersOf (step e c .engine) calls
+
 -- The variant of document 01's number.
 unfoldable pub variantOf : ℕ → SparkleVariant
 variantOf n =
