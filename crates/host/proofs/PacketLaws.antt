@@ -25,9 +25,9 @@ use Rattle.tc_sparkle_aead.specs.Variant.{paramsOf}
 use Rattle.tc_sparkle_aead.specs.Checks.{opening, then, room, whole, phaseCheck, updateLen, totalLen, dataCheck, endCheck}
 use Rattle.tc_sparkle_aead.specs.Checks.{heldIn}
 use Rattle.tc_sparkle_aead.specs.Calls.{beginData, receivedTag, openTag, sealEnd, openEndBy, openEnd, dataBy, dataAnswer, finalBy, finalAnswer, init, processBytes, processBytesOut, doFinal, doFinalOut}
-use Rattle.claims.specs.Call.{Call, Outcome, Left, outcome, startOutcome, step}
+use Rattle.claims.specs.Call.{Outcome, outcome, startOutcome, step}
 use Rattle.host.specs.CallList.{variantOf, isVariant}
-use Rattle.host.specs.Packet.{Packed, endBy, endPacket, dataPacket, startBy, packetOf}
+use Rattle.host.specs.Packet.{endBy, endPacket, dataPacket, startBy, packetOf}
 use Rattle.host.specs.Packet.{dataBy as packetBy}
 use Rattle.host.proofs.RunLaws.{from-place}
 

@@ -12,7 +12,7 @@ use Rattle.tc_sparkle_aead.specs.declared.variant.SparkleVariant.{SparkleVarian
 use Rattle.tc_sparkle_aead.specs.declared.engine.SparkleEngine.{SparkleEngine}
 use Rattle.tc_sparkle_aead.specs.Engine.{newEngine}
 use Rattle.tc_sparkle_aead.specs.Calls.{written}
-use Rattle.claims.specs.Call.{Call, Left, step}
+use Rattle.claims.specs.Call.{Call, step}
 use Rattle.host.specs.declared.call.Head.{Head}
 use Rattle.host.specs.declared.call.Read.{Read}
 use Rattle.host.specs.declared.call.Read.the-variants.{Malformed, Call as ReadCall}

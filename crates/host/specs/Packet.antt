@@ -1,13 +1,13 @@
 -- A whole packet at once: init on a new engine, one data call and the end.
 use Prim.Native.Nat.{ℕ, _+_}
-use mathlib.Core.Bool.{Bool, true, false, cond}
-use mathlib.Core.List.{List, [], _∷_, _++_}
-use lib.ListN.{length, take, drop}
+use mathlib.Core.Bool.{cond}
+use mathlib.Core.List.{List, _++_}
+use lib.ListN.{take, drop}
 use Rattle.tc_sparkle_aead.specs.declared.phase.Direction.{Direction}
 use Rattle.tc_sparkle_aead.specs.declared.engine.SparkleEngine.{SparkleEngine}
 use Rattle.tc_sparkle_aead.specs.Variant.{paramsOf}
 use Rattle.tc_sparkle_aead.specs.Engine.{newEngine}
-use Rattle.claims.specs.Call.{Call, Outcome, Left, step}
+use Rattle.claims.specs.Call.{Call, Outcome, step}
 use Rattle.host.specs.declared.reply.Reply.{Reply}
 use Rattle.host.specs.Reply.{replyOf}
 use Rattle.host.specs.CallList.{variantOf, isVariant}

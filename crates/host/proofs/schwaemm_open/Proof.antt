@@ -3,9 +3,6 @@ use Rattle.host.specs.declared.reply.Reply.{Reply}
 use borrow.Author.Needs.{needs}
 use Rattle.host.proofs.schwaemm_open.Statement.{statement}
 use Rattle.host.proofs.schwaemm_open.Tie as tie
-use Rattle.host.proofs.schwaemm_open.Reads as reads
-use Rattle.host.proofs.schwaemm_open.Lts as lts
-use Rattle.host.proofs.packet.packet.Reads as packet-reads
 
 -- src/lib.rt:74:9
 packet-requires : tie.Need-packet-requires

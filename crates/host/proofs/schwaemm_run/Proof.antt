@@ -3,9 +3,6 @@ use Rattle.host.specs.declared.run.Stop.{Stop}
 use borrow.Author.Needs.{needs}
 use Rattle.host.proofs.schwaemm_run.Statement.{statement}
 use Rattle.host.proofs.schwaemm_run.Tie as tie
-use Rattle.host.proofs.schwaemm_run.Reads as reads
-use Rattle.host.proofs.schwaemm_run.Lts as lts
-use Rattle.host.proofs.run.run_list.Reads as run-list-reads
 
 -- src/lib.rt:26:9
 run-list-requires : tie.Need-run-list-requires

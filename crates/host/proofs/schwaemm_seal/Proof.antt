@@ -3,9 +3,6 @@ use Rattle.host.specs.declared.reply.Reply.{Reply}
 use borrow.Author.Needs.{needs}
 use Rattle.host.proofs.schwaemm_seal.Statement.{statement}
 use Rattle.host.proofs.schwaemm_seal.Tie as tie
-use Rattle.host.proofs.schwaemm_seal.Reads as reads
-use Rattle.host.proofs.schwaemm_seal.Lts as lts
-use Rattle.host.proofs.packet.packet.Reads as packet-reads
 
 -- src/lib.rt:46:9
 packet-requires : tie.Need-packet-requires

@@ -2,10 +2,6 @@ use Rattle.host.specs.Bytes.{numberAt}
 use borrow.Author.Needs.{needs}
 use Rattle.host.proofs.bytes.number_at.Statement.{statement}
 use Rattle.host.proofs.bytes.number_at.Tie as tie
-use Rattle.host.proofs.bytes.number_at.Reads as reads
-use Rattle.host.proofs.bytes.number_at.Lts as lts
-use Rattle.host.proofs.bytes.long.Reads as long-reads
-use Rattle.host.proofs.bytes.word_at.Reads as word-at-reads
 
 -- src/bytes.rt:32:10
 word-at-requires : tie.Need-word-at-requires

@@ -2,9 +2,6 @@ use Rattle.host.specs.Bytes.{number}
 use borrow.Author.Needs.{needs}
 use Rattle.host.proofs.bytes.number_bytes.Statement.{statement}
 use Rattle.host.proofs.bytes.number_bytes.Tie as tie
-use Rattle.host.proofs.bytes.number_bytes.Reads as reads
-use Rattle.host.proofs.bytes.number_bytes.Lts as lts
-use Rattle.host.proofs.bytes.low_byte.Reads as low-byte-reads
 
 -- src/bytes.rt:47:9
 low-byte-requires : tie.Need-low-byte-requires

@@ -2,10 +2,6 @@ use Rattle.host.proofs.AnswerLaws.{number-written}
 use borrow.Author.Needs.{needs}
 use Rattle.host.proofs.bytes.put_number.Statement.{statement}
 use Rattle.host.proofs.bytes.put_number.Tie as tie
-use Rattle.host.proofs.bytes.put_number.Reads as reads
-use Rattle.host.proofs.bytes.put_number.Lts as lts
-use Rattle.host.proofs.bytes.number_bytes.Reads as number-bytes-reads
-use Rattle.host.proofs.bytes.put.Reads as put-reads
 
 -- src/bytes.rt:75:17
 number-bytes-requires : tie.Need-number-bytes-requires

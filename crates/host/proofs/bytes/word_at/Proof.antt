@@ -2,9 +2,6 @@ use Rattle.host.specs.Bytes.{wordAt}
 use borrow.Author.Needs.{needs}
 use Rattle.host.proofs.bytes.word_at.Statement.{statement}
 use Rattle.host.proofs.bytes.word_at.Tie as tie
-use Rattle.host.proofs.bytes.word_at.Reads as reads
-use Rattle.host.proofs.bytes.word_at.Lts as lts
-use Rattle.host.proofs.bytes.word.Reads as word-reads
 
 -- src/bytes.rt:24:10
 shared-slice-read-word : tie.Need-shared-slice-read-word

@@ -7,21 +7,11 @@ use borrow.Author.Tests.{ne-eqb}
 use lib.ListN.{length, drop}
 use Rattle.tc_sparkle_aead.specs.declared.engine.SparkleEngine.{SparkleEngine}
 use Rattle.tc_sparkle_aead.specs.declared.phase.Direction.the-variants.{Encrypt, Decrypt}
-use Rattle.claims.specs.Call.{Call, Left, step}
+use Rattle.claims.specs.Call.{Call, step}
 use Rattle.host.specs.declared.call.Head.{Head}
 use Rattle.host.specs.CallList.{firstRun, secondRun, thirdRun, callOf, shownLength, answerOf}
 use Rattle.host.proofs.call.answer.Statement.{statement}
 use Rattle.host.proofs.call.answer.Tie as tie
-use Rattle.host.proofs.call.answer.Reads as reads
-use Rattle.host.proofs.call.answer.Lts as lts
-use Rattle.host.proofs.call.do_final.Reads as do-final-reads
-use Rattle.host.proofs.call.init.Reads as init-reads
-use Rattle.host.proofs.call.mac.Reads as mac-reads
-use Rattle.host.proofs.call.output_len.Reads as output-len-reads
-use Rattle.host.proofs.call.process_aad_bytes.Reads as process-aad-bytes-reads
-use Rattle.host.proofs.call.process_bytes.Reads as process-bytes-reads
-use Rattle.host.proofs.call.reset.Reads as reset-reads
-use Rattle.host.proofs.call.update_output_len.Reads as update-output-len-reads
 
 -- what an arm's call says, told of the call of the head
 told : (e r : SparkleEngine) (c c′ : Call) (m m′ : ℕ) (x out : List ℕ) → c ≡ c′ → m ≡ m′

@@ -1,23 +1,16 @@
 use mathlib.Core.Path.{_≡_, refl, ap, _∙_}
 use mathlib.Core.List.{List, _++_}
 use Prim.Native.Nat.{ℕ, _+_, _-_, _≤_}
-use native.Mathlib.Omega.{arith}
 use lib.ListN.{length, take, drop}
 use Rattle.tc_sparkle_aead.specs.declared.engine.Done.{Done}
 use Rattle.tc_sparkle_aead.specs.Calls.{doFinal, doFinalOut, macOf, stepsNow}
-use Rattle.claims.specs.Call.{Call, Left, step, outcome}
+use Rattle.claims.specs.Call.{Call, step, outcome}
 use Rattle.host.specs.Reply.{replyOf}
 use Rattle.host.specs.CallList.{thirdRun, shown, shownCount, answerHead}
 use Rattle.host.proofs.AnswerLaws.{length-third, third-lent, third-back, answer-whole}
 use borrow.Author.Needs.{needs}
 use Rattle.host.proofs.call.do_final.Statement.{statement}
 use Rattle.host.proofs.call.do_final.Tie as tie
-use Rattle.host.proofs.call.do_final.Reads as reads
-use Rattle.host.proofs.call.do_final.Lts as lts
-use Rattle.host.proofs.bytes.put.Reads as put-reads
-use Rattle.host.proofs.call.put_head.Reads as put-head-reads
-use Rattle.host.proofs.reply.reply_of.Reads as reply-of-reads
-use Rattle.tc_sparkle_aead.proofs.aead_cipher.do_final.Reads as do-final-reads
 
 -- src/call.rt:173:13
 add-b : tie.Need-add-b

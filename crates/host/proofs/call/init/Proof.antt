@@ -1,18 +1,13 @@
 use mathlib.Core.Path.{_≡_, refl, ap, _∙_}
 use lib.ListN.{drop}
 use Rattle.tc_sparkle_aead.specs.declared.engine.Started.{Started}
-use Rattle.claims.specs.Call.{Call, Left, step, startOutcome}
+use Rattle.claims.specs.Call.{Call, step, startOutcome}
 use Rattle.host.specs.Reply.{replyOf}
 use Rattle.host.specs.CallList.{firstRun, secondRun, thirdRun, shown, shownCount}
 use Rattle.host.proofs.AnswerLaws.{start-said, answer-whole}
 use borrow.Author.Needs.{needs}
 use Rattle.host.proofs.call.init.Statement.{statement}
 use Rattle.host.proofs.call.init.Tie as tie
-use Rattle.host.proofs.call.init.Reads as reads
-use Rattle.host.proofs.call.init.Lts as lts
-use Rattle.host.proofs.call.put_head.Reads as put-head-reads
-use Rattle.host.proofs.reply.start_reply_of.Reads as start-reply-of-reads
-use Rattle.tc_sparkle_aead.proofs.aead_cipher.init.Reads as init-reads
 
 -- src/call.rt:129:13
 add-b : tie.Need-add-b

@@ -3,20 +3,13 @@ use mathlib.Core.List.{_++_}
 use Prim.Native.Nat.{ℕ}
 use lib.ListN.{drop}
 use Rattle.tc_sparkle_aead.specs.declared.engine.Mac.{Mac}
-use Rattle.claims.specs.Call.{Call, Outcome, Left, step}
+use Rattle.claims.specs.Call.{Call, Outcome, step}
 use Rattle.host.specs.Reply.{replyOf}
 use Rattle.host.specs.CallList.{shown, shownCount}
 use Rattle.host.proofs.AnswerLaws.{answer-whole}
 use borrow.Author.Needs.{needs}
 use Rattle.host.proofs.call.mac.Statement.{statement}
 use Rattle.host.proofs.call.mac.Tie as tie
-use Rattle.host.proofs.call.mac.Reads as reads
-use Rattle.host.proofs.call.mac.Lts as lts
-use Rattle.host.proofs.call.count.Reads as count-reads
-use Rattle.host.proofs.call.put_head.Reads as put-head-reads
-use Rattle.host.proofs.call.put_tag.Reads as put-tag-reads
-use Rattle.host.proofs.call.tag_len.Reads as tag-len-reads
-use Rattle.tc_sparkle_aead.proofs.aead_cipher.mac.Reads as mac-reads
 
 -- src/call.rt:217:9
 mac-requires : tie.Need-mac-requires

@@ -1,18 +1,13 @@
 use mathlib.Core.Path.{_≡_, refl, ap, _∙_}
 use lib.ListN.{drop}
 use Rattle.tc_sparkle_aead.specs.declared.aead_error.AeadResult.{AeadResult}
-use Rattle.claims.specs.Call.{Call, Left, step, outcome}
+use Rattle.claims.specs.Call.{Call, step, outcome}
 use Rattle.host.specs.Reply.{replyOf}
 use Rattle.host.specs.CallList.{shown, shownCount}
 use Rattle.host.proofs.AnswerLaws.{answer-whole}
 use borrow.Author.Needs.{needs}
 use Rattle.host.proofs.call.output_len.Statement.{statement}
 use Rattle.host.proofs.call.output_len.Tie as tie
-use Rattle.host.proofs.call.output_len.Reads as reads
-use Rattle.host.proofs.call.output_len.Lts as lts
-use Rattle.host.proofs.call.put_head.Reads as put-head-reads
-use Rattle.host.proofs.reply.reply_of.Reads as reply-of-reads
-use Rattle.tc_sparkle_aead.proofs.aead_cipher.output_len.Reads as output-len-reads
 
 -- src/call.rt:226:35
 output-len-requires : tie.Need-output-len-requires

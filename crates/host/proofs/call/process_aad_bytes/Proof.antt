@@ -2,18 +2,13 @@ use mathlib.Core.Path.{_≡_, refl, ap, _∙_}
 use lib.ListN.{drop}
 use Rattle.tc_sparkle_aead.specs.declared.engine.Done.{Done}
 use Rattle.tc_sparkle_aead.specs.Calls.{processAadBytes}
-use Rattle.claims.specs.Call.{Call, Left, step, outcome}
+use Rattle.claims.specs.Call.{Call, step, outcome}
 use Rattle.host.specs.Reply.{replyOf}
 use Rattle.host.specs.CallList.{firstRun, shown, shownCount}
 use Rattle.host.proofs.AnswerLaws.{first-part, answer-whole}
 use borrow.Author.Needs.{needs}
 use Rattle.host.proofs.call.process_aad_bytes.Statement.{statement}
 use Rattle.host.proofs.call.process_aad_bytes.Tie as tie
-use Rattle.host.proofs.call.process_aad_bytes.Reads as reads
-use Rattle.host.proofs.call.process_aad_bytes.Lts as lts
-use Rattle.host.proofs.call.put_head.Reads as put-head-reads
-use Rattle.host.proofs.reply.reply_of.Reads as reply-of-reads
-use Rattle.tc_sparkle_aead.proofs.aead_cipher.process_aad_bytes.Reads as process-aad-bytes-reads
 
 -- src/call.rt:144:47
 sub-process-aad-bytes : tie.Need-sub-process-aad-bytes

@@ -6,12 +6,6 @@ use Rattle.host.proofs.AnswerLaws.{head-written}
 use borrow.Author.Needs.{needs}
 use Rattle.host.proofs.call.put_head.Statement.{statement}
 use Rattle.host.proofs.call.put_head.Tie as tie
-use Rattle.host.proofs.call.put_head.Reads as reads
-use Rattle.host.proofs.call.put_head.Lts as lts
-use Rattle.host.proofs.bytes.put.Reads as put-reads
-use Rattle.host.proofs.bytes.put_number.Reads as put-number-reads
-use Rattle.host.proofs.call.readable.Reads as readable-reads
-use Rattle.tc_sparkle_aead.proofs.aead_cipher.steps.Reads as steps-reads
 
 -- src/call.rt:115:28
 readable-requires : tie.Need-readable-requires

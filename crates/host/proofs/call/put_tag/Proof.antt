@@ -7,9 +7,6 @@ use Rattle.host.proofs.AnswerLaws.{behind-head}
 use borrow.Author.Needs.{needs}
 use Rattle.host.proofs.call.put_tag.Statement.{statement}
 use Rattle.host.proofs.call.put_tag.Tie as tie
-use Rattle.host.proofs.call.put_tag.Reads as reads
-use Rattle.host.proofs.call.put_tag.Lts as lts
-use Rattle.host.proofs.bytes.put.Reads as put-reads
 
 -- src/call.rt:209:25
 slice-aggregate-put : tie.Need-slice-aggregate-put

@@ -6,10 +6,6 @@ use borrow.Author.Tests.{leb-true, leb-false}
 use Rattle.host.proofs.ReadLaws.{read-short, read-low, read-high, read-whole, read-over}
 use Rattle.host.proofs.call.read_call.Statement.{statement}
 use Rattle.host.proofs.call.read_call.Tie as tie
-use Rattle.host.proofs.call.read_call.Reads as reads
-use Rattle.host.proofs.call.read_call.Lts as lts
-use Rattle.host.proofs.call.read_head.Reads as read-head-reads
-use Rattle.host.proofs.call.runs_fit.Reads as runs-fit-reads
 
 returns : tie.Need-returns
 returns c = read-short (c .before .before .args .rest .now) (omega arith)

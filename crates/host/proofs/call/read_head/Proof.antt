@@ -2,9 +2,6 @@ use Rattle.host.specs.CallList.{headOf}
 use borrow.Author.Needs.{needs}
 use Rattle.host.proofs.call.read_head.Statement.{statement}
 use Rattle.host.proofs.call.read_head.Tie as tie
-use Rattle.host.proofs.call.read_head.Reads as reads
-use Rattle.host.proofs.call.read_head.Lts as lts
-use Rattle.host.proofs.bytes.number_at.Reads as number-at-reads
 
 -- src/call.rt:39:15
 shared-slice-read-t3 : tie.Need-shared-slice-read-t3

@@ -1,12 +1,9 @@
-use mathlib.Core.Path.{_≡_, sym, ap, _∙_}
+use mathlib.Core.Path.{sym, ap, _∙_}
 use borrow.Author.Needs.{needs}
 use Rattle.tc_sparkle_aead.specs.declared.engine.Mac.{Mac}
 use Rattle.host.specs.CallList.{flag}
 use Rattle.host.proofs.call.readable.Statement.{statement}
 use Rattle.host.proofs.call.readable.Tie as tie
-use Rattle.host.proofs.call.readable.Reads as reads
-use Rattle.host.proofs.call.readable.Lts as lts
-use Rattle.tc_sparkle_aead.proofs.aead_cipher.mac.Reads as mac-reads
 
 mac-requires : tie.Need-mac-requires
 mac-requires c κs = search needs

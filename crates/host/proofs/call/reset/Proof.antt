@@ -6,11 +6,6 @@ use Rattle.host.proofs.AnswerLaws.{answer-whole}
 use borrow.Author.Needs.{needs}
 use Rattle.host.proofs.call.reset.Statement.{statement}
 use Rattle.host.proofs.call.reset.Tie as tie
-use Rattle.host.proofs.call.reset.Reads as reads
-use Rattle.host.proofs.call.reset.Lts as lts
-use Rattle.host.proofs.call.count.Reads as count-reads
-use Rattle.host.proofs.call.put_head.Reads as put-head-reads
-use Rattle.tc_sparkle_aead.proofs.aead_cipher.reset.Reads as reset-reads
 
 -- src/call.rt:189:9
 reset-requires : tie.Need-reset-requires

@@ -6,8 +6,6 @@ use borrow.Author.Tests.{lt-leb}
 use Rattle.host.proofs.Tests.{leb-alike}
 use Rattle.host.proofs.call.runs_fit.Statement.{statement}
 use Rattle.host.proofs.call.runs_fit.Tie as tie
-use Rattle.host.proofs.call.runs_fit.Reads as reads
-use Rattle.host.proofs.call.runs_fit.Lts as lts
 
 returns : tie.Need-returns
 returns c =

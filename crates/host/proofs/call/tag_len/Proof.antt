@@ -6,10 +6,6 @@ use Rattle.tc_sparkle_aead.specs.declared.engine.Mac.{Mac}
 use Rattle.tc_sparkle_aead.specs.Variant.{paramsOf}
 use Rattle.host.proofs.call.tag_len.Statement.{statement}
 use Rattle.host.proofs.call.tag_len.Tie as tie
-use Rattle.host.proofs.call.tag_len.Reads as reads
-use Rattle.host.proofs.call.tag_len.Lts as lts
-use Rattle.tc_sparkle_aead.proofs.aead_cipher.mac.Reads as mac-reads
-use Rattle.tc_sparkle_aead.proofs.engine.tag_bytes.Reads as tag-bytes-reads
 
 -- a count by the flag of what mac gave
 by-flag : (m m′ : Mac) (b : Bool) (k : ℕ) → m ≡ m′ → m .readable ≡ b → cond b k 0 ≡ cond (m′ .readable) k 0

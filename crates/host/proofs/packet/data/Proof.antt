@@ -6,11 +6,6 @@ use Rattle.host.proofs.PacketLaws.{data-bound, data-packet}
 use borrow.Author.Needs.{needs}
 use Rattle.host.proofs.packet.data.Statement.{statement}
 use Rattle.host.proofs.packet.data.Tie as tie
-use Rattle.host.proofs.packet.data.Reads as reads
-use Rattle.host.proofs.packet.data.Lts as lts
-use Rattle.host.proofs.packet.end.Reads as end-reads
-use Rattle.host.proofs.reply.reply_of.Reads as reply-of-reads
-use Rattle.tc_sparkle_aead.proofs.aead_cipher.process_bytes.Reads as process-bytes-reads
 
 -- src/packet.rt:41:9
 process-bytes-requires : tie.Need-process-bytes-requires

@@ -5,10 +5,6 @@ use Rattle.host.proofs.PacketLaws.{end-bound, end-reply, end-out}
 use borrow.Author.Needs.{needs}
 use Rattle.host.proofs.packet.end.Statement.{statement}
 use Rattle.host.proofs.packet.end.Tie as tie
-use Rattle.host.proofs.packet.end.Reads as reads
-use Rattle.host.proofs.packet.end.Lts as lts
-use Rattle.host.proofs.reply.reply_of.Reads as reply-of-reads
-use Rattle.tc_sparkle_aead.proofs.aead_cipher.do_final.Reads as do-final-reads
 
 -- src/packet.rt:24:38
 sub-do-final : tie.Need-sub-do-final

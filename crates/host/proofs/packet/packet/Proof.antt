@@ -6,15 +6,6 @@ use Rattle.host.proofs.PacketLaws.{start-packet, no-variant}
 use borrow.Author.Needs.{needs}
 use Rattle.host.proofs.packet.packet.Statement.{statement}
 use Rattle.host.proofs.packet.packet.Tie as tie
-use Rattle.host.proofs.packet.packet.Reads as reads
-use Rattle.host.proofs.packet.packet.Lts as lts
-use Rattle.host.proofs.packet.data.Reads as data-reads
-use Rattle.host.proofs.reply.start_reply_of.Reads as start-reply-of-reads
-use Rattle.host.proofs.run.is_variant.Reads as is-variant-reads
-use Rattle.host.proofs.run.variant.Reads as variant-reads
-use Rattle.tc_sparkle_aead.proofs.aead_cipher.init.Reads as init-reads
-use Rattle.tc_sparkle_aead.proofs.engine.new.Reads as new-reads
-use Rattle.tc_sparkle_aead.proofs.variant.SparkleVariant.tag_bytes.Reads as tag-bytes-reads
 
 -- src/packet.rt:63:9
 is-variant-requires : tie.Need-is-variant-requires

@@ -4,8 +4,6 @@ use borrow.Author.Tests.{lt-ltb, le-ltb}
 use Rattle.host.specs.CallList.{isVariant}
 use Rattle.host.proofs.run.is_variant.Statement.{statement}
 use Rattle.host.proofs.run.is_variant.Tie as tie
-use Rattle.host.proofs.run.is_variant.Reads as reads
-use Rattle.host.proofs.run.is_variant.Lts as lts
 
 -- src/run.rt:21:1
 returns : tie.Need-returns

@@ -1,24 +1,17 @@
 -- The loop keeps `Walking`: each turn is `walk-turn`, each way out one of `walk-end`, `walk-malformed`, `walk-no-room`.
-use mathlib.Core.Path.{_≡_, refl, sym, ap, ap₂, _∙_}
-use mathlib.Core.Bool.{true, false}
-use mathlib.Core.List.{List, _++_}
+use mathlib.Core.Path.{_≡_, sym, ap, ap₂, _∙_}
+use mathlib.Core.Bool.{true}
 use Prim.Native.Nat.{ℕ, _+_, _-_, _≤_, _<_}
 use native.Mathlib.Omega.{arith}
 use borrow.Author.Needs.{needs}
 use borrow.Author.Tests.{leb-true, not-true, not-false}
 use lib.Dec.{leb}
-use lib.ListN.{length, take, drop, length-take, length-drop}
-use Rattle.host.specs.declared.call.Read.the-variants.{Malformed, Call}
+use lib.ListN.{length, drop, length-take, length-drop}
+use Rattle.host.specs.declared.call.Read.the-variants.{Call}
 use Rattle.host.specs.CallList.{readOf, runCalls, shownLength}
 use Rattle.host.proofs.RunLaws.{Walking, from-place, walk-start, walk-end, walk-malformed, walk-no-room, walk-code, call-within}
 use Rattle.host.proofs.run.run_calls.Statement.{statement}
 use Rattle.host.proofs.run.run_calls.Tie as tie
-use Rattle.host.proofs.run.run_calls.Reads as reads
-use Rattle.host.proofs.run.run_calls.Lts as lts
-use Rattle.host.proofs.call.answer.Reads as answer-reads
-use Rattle.host.proofs.call.read_call.Reads as read-call-reads
-use Rattle.host.proofs.call.shown_len.Reads as shown-len-reads
-use Rattle.host.proofs.run.fits.Reads as fits-reads
 
 abbrev Inv-loop : tie.InvT-loop
 Inv-loop list answers₀ e₀ at₀ used₀ answers e at used =

@@ -1,4 +1,4 @@
-use mathlib.Core.Path.{_≡_, sym, ap, _∙_}
+use mathlib.Core.Path.{sym, ap, _∙_}
 use Prim.Native.Nat.{ℕ, _-_}
 use lib.ListN.{length}
 use Rattle.tc_sparkle_aead.specs.Calls.{written}
@@ -8,12 +8,6 @@ use Rattle.host.proofs.RunLaws.{list-refused, list-empty, list-run}
 use borrow.Author.Needs.{needs}
 use Rattle.host.proofs.run.run_list.Statement.{statement}
 use Rattle.host.proofs.run.run_list.Tie as tie
-use Rattle.host.proofs.run.run_list.Reads as reads
-use Rattle.host.proofs.run.run_list.Lts as lts
-use Rattle.host.proofs.run.is_variant.Reads as is-variant-reads
-use Rattle.host.proofs.run.run_calls.Reads as run-calls-reads
-use Rattle.host.proofs.run.variant.Reads as variant-reads
-use Rattle.tc_sparkle_aead.proofs.engine.new.Reads as new-reads
 
 -- src/run.rt:88:9
 abbrev stopOf : ℕ → Ran → Stop
