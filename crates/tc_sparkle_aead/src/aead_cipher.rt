@@ -46,18 +46,23 @@ pub fn init(
 pub fn process_aad_bytes(e: SparkleEngine, input: &[u8]) -> Done
     ensures { λ r. ⌜ r ≡ processAadBytes e (now (input .entry)) ⌝ }
 {
+    let variant = e.variant;
     let at = e.current;
     let phase = at.phase;
-    let answer = checks::aad_check(phase, input.len());
+    if input.len() == 0 {
+        return Done {
+            answer: AeadResult::Ok(0),
+            engine: e,
+        };
+    }
+    let answer = checks::header_check(phase);
     let AeadResult::Ok(_) = answer else {
         return Done { answer, engine: e };
     };
-    if input.len() == 0 {
-        return Done { answer, engine: e };
-    }
+    let next = engine::absorb(variant, checks::direction(phase), at, input);
     Done {
         answer,
-        engine: engine::header_in(e, input),
+        engine: engine::at_point(e, next, engine::header_steps(variant, at, input)),
     }
 }
 
@@ -120,7 +125,7 @@ pub fn output_len(e: SparkleEngine, n: usize) -> AeadResult
 }
 
 // Drops the readable tag and restarts the message, unless a sealing has begun its data.
-pub fn reset(e: SparkleEngine) -> SparkleEngine
+pub fn reset(mut e: SparkleEngine) -> SparkleEngine
     ensures { λ r. ⌜ r ≡ reset e ⌝ }
 {
     let at = e.current;
@@ -133,11 +138,10 @@ pub fn reset(e: SparkleEngine) -> SparkleEngine
         current: steps.initial,
         initial: steps.initial,
     };
-    let mut r = e;
-    r.current = current;
-    r.mac = mac;
-    r.steps = back;
-    r
+    e.current = current;
+    e.mac = mac;
+    e.steps = back;
+    e
 }
 
 // The tag after a successful end, until the next init or reset.

@@ -2,7 +2,7 @@
 // 01's tables ("At the entry: phase and call"). Sums are compared by subtraction.
 ghost use mathlib.Core.Path.{_≡_};
 ghost use Rattle.tc_sparkle_aead.specs.Variant.{paramsOf};
-ghost use Rattle.tc_sparkle_aead.specs.Checks.{opens, opening, heldIn, keep, then, updateLen, totalLen, phaseCheck, room, whole, headerCheck, aadCheck, dataCheck, endCheck, startCheck};
+ghost use Rattle.tc_sparkle_aead.specs.Checks.{opens, directionOf, opening, heldIn, keep, then, updateLen, totalLen, phaseCheck, room, whole, headerCheck, dataCheck, endCheck, startCheck};
 ghost use Rattle.schwaemm.specs.Blocks.{ready};
 ghost use Prim.Native.Nat.{_-_, _*_, min};
 use super::aead_error::AeadError;
@@ -22,17 +22,24 @@ fn opens(d: Direction) -> bool
     }
 }
 
+// The direction of a phase; `Uninitialized`, which has none, counts as sealing.
+pub(crate) fn direction(phase: Phase) -> Direction
+    ensures { λ r. ⌜ r ≡ directionOf phase ⌝ }
+{
+    match phase {
+        Phase::Uninitialized => Direction::Encrypt,
+        Phase::Init(d) => d,
+        Phase::Aad(d) => d,
+        Phase::Data(d) => d,
+        Phase::Final(d) => d,
+    }
+}
+
 // Whether a phase opens.
 pub(crate) fn opening(phase: Phase) -> bool
     ensures { λ r. ⌜ r ≡ opening phase ⌝ }
 {
-    match phase {
-        Phase::Uninitialized => false,
-        Phase::Init(d) => opens(d),
-        Phase::Aad(d) => opens(d),
-        Phase::Data(d) => opens(d),
-        Phase::Final(d) => opens(d),
-    }
+    opens(direction(phase))
 }
 
 // The bytes that stay, besides one more: on an opening the tag's.
@@ -166,7 +173,7 @@ fn whole(variant: SparkleVariant, phase: Phase, held: usize, n: usize) -> AeadRe
 }
 
 // Whether a phase takes a header that is not empty.
-fn header_check(phase: Phase) -> AeadResult
+pub(crate) fn header_check(phase: Phase) -> AeadResult
     ensures { λ r. ⌜ r ≡ headerCheck phase ⌝ }
 {
     match phase {
@@ -175,17 +182,6 @@ fn header_check(phase: Phase) -> AeadResult
         Phase::Aad(_) => AeadResult::Ok(0),
         Phase::Data(_) => AeadResult::Err(AeadError::AadAfterData),
         Phase::Final(_) => AeadResult::Err(AeadError::AlreadyFinalized),
-    }
-}
-
-// Whether a header call of n bytes is taken.
-pub(crate) fn aad_check(phase: Phase, n: usize) -> AeadResult
-    ensures { λ r. ⌜ r ≡ aadCheck phase n ⌝ }
-{
-    if n == 0 {
-        AeadResult::Ok(0)
-    } else {
-        header_check(phase)
     }
 }
 
