@@ -8,7 +8,6 @@ ghost use mathlib.Core.Bool.{cond};
 ghost use lib.Dec.{ltb};
 ghost use lib.ListN.{length, take};
 ghost use Rattle.schwaemm.specs.Bytes.{same};
-ghost use Rattle.schwaemm.specs.Blocks.{ready};
 ghost use Rattle.schwaemm.specs.Schwaemm.{messageBlock};
 ghost use Rattle.tc_sparkle_aead.specs.Checks.{keep};
 ghost use Rattle.tc_sparkle_aead.specs.Engine.{noMessage, noMac, newEngine, repeats, remember};
@@ -150,13 +149,6 @@ pub(crate) fn held_count(variant: SparkleVariant, phase: Phase, held: usize) -> 
     }
 }
 
-// How many blocks of n bytes go while `keep` bytes and one more stay.
-pub(crate) fn block_count(variant: SparkleVariant, keep: usize, n: usize) -> usize
-    ensures { λ r. ⌜ r ≡ ready (paramsOf variant .rate) keep n ⌝ }
-{
-    checks::saturating_sub(checks::saturating_sub(n, keep), 1) / variant.nonce_bytes()
-}
-
 pub(crate) fn add_steps(s: Steps, n: u64) -> Steps
     ensures { λ r. ⌜ r ≡ addSteps n s ⌝ }
 {
@@ -188,7 +180,7 @@ pub(crate) fn absorb(variant: SparkleVariant, d: Direction, at: Point, header: &
     let buffer = at.buffer;
     let held = held_count(variant, phase, at.held);
     let total = held + header.len();
-    let count = block_count(variant, 0, total);
+    let count = checks::block_count(variant, 0, total);
     let next = blocks::absorb_blocks(variant, words, buffer, held, header, count);
     let gone = count * variant.nonce_bytes();
     let rest = total - gone;
@@ -293,7 +285,7 @@ pub(crate) fn header_steps(variant: SparkleVariant, at: Point, header: &[u8]) ->
 {
     let phase = at.phase;
     let held = held_count(variant, phase, at.held);
-    let count = block_count(variant, 0, held + header.len());
+    let count = checks::block_count(variant, 0, held + header.len());
     (count as u64) * (variant.slim_steps() as u64)
 }
 
@@ -343,7 +335,7 @@ pub(crate) fn data_in(e: SparkleEngine, input: &[u8], output: &mut [u8]) -> Spar
     let at = e.current;
     let phase = at.phase;
     let held = held_count(variant, phase, at.held);
-    let count = block_count(variant, checks::keep(variant, phase), held + input.len());
+    let count = checks::block_count(variant, checks::keep(variant, phase), held + input.len());
     let next = stream_in(variant, at, input, output, count);
     at_point(e, next, (count as u64) * (variant.slim_steps() as u64))
 }
