@@ -87,19 +87,17 @@ pub(crate) fn no_message() -> Point
 pub fn new(variant: SparkleVariant) -> SparkleEngine
     ensures { λ r. ⌜ r ≡ newEngine variant ⌝ }
 {
+    let none = no_message();
     SparkleEngine {
         variant,
-        current: no_message(),
-        initial: no_message(),
+        current: none,
+        initial: none,
         pair: Pair {
             loaded: false,
             key: [0; 32],
             nonce: [0; 32],
         },
-        mac: Mac {
-            readable: false,
-            bytes: [0; 32],
-        },
+        mac: no_mac(),
         steps: Steps {
             current: 0,
             initial: 0,
