@@ -6,7 +6,7 @@ use native.Mathlib.Omega.{arith}
 use borrow.Author.Tests.{lt-ltb, le-ltb, eq-eqb, ne-eqb}
 use Rattle.schwaemm.specs.Blocks.{ready}
 use Rattle.schwaemm.specs.Schwaemm.{Params}
-use Rattle.tc_sparkle_aead.specs.Checks.{opens, opening, heldIn, keep, then, updateLen, totalLen, phaseCheck, room, whole, dataCheck, endCheck, startCheck}
+use Rattle.tc_sparkle_aead.specs.Checks.{opens, opening, heldIn, keep, then, within64, updateLen, totalLen, phaseCheck, room, whole, dataCheck, endCheck, startCheck}
 use Rattle.tc_sparkle_aead.specs.declared.phase.Direction.{Direction}
 use Rattle.tc_sparkle_aead.specs.declared.phase.Phase.{Phase}
 use Rattle.tc_sparkle_aead.specs.declared.aead_error.AeadError.{AeadError}
@@ -20,16 +20,24 @@ cond-same : (b : Bool) {x : AeadResult} → cond b x x ≡ x
 cond-same true = refl
 cond-same false = refl
 
+-- a sum past 2^64 - 1, and one that is not
+module _ (sum n : ℕ) where
+  within64-over : 2 ^ 64 ≤ sum → within64 sum n ≡ Err InputTooLong
+  within64-over over = ap (λ (t : Bool). cond t (Ok n) (Err InputTooLong)) (le-ltb sum (2 ^ 64) over)
+
+  within64-fits : sum < 2 ^ 64 → within64 sum n ≡ Ok n
+  within64-fits fits = ap (λ (t : Bool). cond t (Ok n) (Err InputTooLong)) (lt-ltb sum (2 ^ 64) fits)
+
 module _ (p : Params) (phase : Phase) (held n : ℕ) where
   -- update_output_len: 7, or the bytes of the blocks that are ready.
   pub updateLen-over : 2 ^ 64 ≤ heldIn p phase held + n → updateLen p phase held n ≡ Err InputTooLong
   unfolding updateLen
-  updateLen-over over = rw (le-ltb _ _ over) refl
+  updateLen-over over = within64-over (heldIn p phase held + n) _ over
 
   pub updateLen-fits : heldIn p phase held + n < 2 ^ 64
       → updateLen p phase held n ≡ Ok (ready (p .rate) (keep p phase) (heldIn p phase held + n) * p .rate)
   unfolding updateLen
-  updateLen-fits fits = rw (lt-ltb _ _ fits) refl
+  updateLen-fits fits = within64-fits (heldIn p phase held + n) _ fits
 
   -- output_len: 7, or the sum, less the tag on an opening and with the tag otherwise.
   pub totalLen-over : 2 ^ 64 ≤ heldIn p phase held + n → totalLen p phase held n ≡ Err InputTooLong

@@ -34,10 +34,10 @@ module _ (p : Params) (small : Small p) (k : ℕ) (at : Point) (input : List ℕ
   count-is e =
       e ∙ ap (ready (p .rate) k) (length-stream p at input small long ∙ ap (λ (n : ℕ). n + length input) (sym eh))
 
-  pub is-count : count ≡ ready (p .rate) k (h + length input) → count ≡ blocks p k at input
+  pub is-count : (n : ℕ) → count ≡ ready (p .rate) k n → n ≡ h + length input → count ≡ blocks p k at input
   unfolding blocks
-  is-count e =
-      e ∙ ap (ready (p .rate) k) (ap (λ (n : ℕ). n + length input) eh ∙ sym (length-stream p at input small long))
+  is-count n e en =
+      e ∙ ap (ready (p .rate) k) (en ∙ ap (λ (n : ℕ). n + length input) eh ∙ sym (length-stream p at input small long))
 
 -- what the blocks write
 pub written-at : (p : Params) (at : Point) (input out bytes : List ℕ) (h count : ℕ) → h ≡ heldCount p (at .phase) (at .held) → count ≡ blocks p (keep p (at .phase)) at input → length (given (p .rate) (messageBlock p (plainOf p (at .phase))) (crypt p) count (stateIn p (at .words)) (take h (at .buffer) ++ input)) ≡ count * p .rate → bytes ≡ given (p .rate) (messageBlock p (plainOf p (at .phase))) (crypt p) count (stateIn p (at .words)) (take h (at .buffer) ++ input) ++ drop (count * p .rate) out → bytes ≡ written (streamOut p at input) out

@@ -276,8 +276,9 @@ module _ {e : SparkleEngine} {body steps : ℕ} {plain tag : List ℕ} {equal : 
   unfolding openEnd endedBy
   unopened n done mac wrong em ee = rw (sym (o .verdict) ∙ wrong) (ee ∙ rw (em, o .run))
 
-  pub unopened-out : (out out₁ : List ℕ) → equal ≡ false → out₁ ≡ paste out 0 (zeros 64) body
+  pub unopened-out : (out out₁ bytes : List ℕ) → equal ≡ false → out₁ ≡ paste out 0 bytes body → bytes ≡ zeros 64
       → out₁ ≡ written (openEndOutBy (same (receivedTag e) (openTag e)) e) out
-  unopened-out out out₁ wrong e₁ =
+  unopened-out out out₁ bytes wrong e₁ eb =
       rw (sym (o .verdict) ∙ wrong, o .block)
-      (e₁ ∙ paste-front out (zeros 64) (zeros body) body (take-zeros body 64 (o .within)) (length-zeros body))
+      (e₁
+      ∙ paste-front out bytes (zeros body) body (ap (take body) eb ∙ take-zeros body 64 (o .within)) (length-zeros body))

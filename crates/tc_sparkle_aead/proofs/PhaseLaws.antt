@@ -1,6 +1,6 @@
 -- What a phase decides, by cases: its direction, where the data begins and where a reset leads. A `match` that groups
 -- phases tells which numbers of theirs are possible.
-use mathlib.Core.Path.{_≡_, refl}
+use mathlib.Core.Path.{_≡_, refl, sym, ap, ap₂, _∙_}
 use mathlib.Core.Bool.{true, false}
 use mathlib.Core.List.{[], _∷_}
 use mathlib.Core.Logic.{inl, inr}
@@ -8,13 +8,15 @@ use Prim.Native.Nat.{ℕ}
 use native.Mathlib.Omega.{arith}
 use types.Run.{OneOf}
 use denote.Enum.Declared.{tagOf}
+use Rattle.tc_sparkle_aead.specs.declared.phase.Direction.{Direction}
 use Rattle.tc_sparkle_aead.specs.declared.phase.Direction.the-variants.{Encrypt, Decrypt}
 use Rattle.tc_sparkle_aead.specs.declared.phase.Phase.{Phase}
 use Rattle.tc_sparkle_aead.specs.declared.phase.Phase.the-variants.{Uninitialized, Init, Aad, Data, Final}
 use Rattle.tc_sparkle_aead.specs.declared.engine.Point.{Point}
 use Rattle.tc_sparkle_aead.specs.declared.engine.SparkleEngine.{SparkleEngine}
+use Rattle.tc_sparkle_aead.specs.Variant.{paramsOf}
 use Rattle.tc_sparkle_aead.specs.Checks.{directionOf, opens, opening}
-use Rattle.tc_sparkle_aead.specs.Calls.{beginBy, finalPoint, resetPoint}
+use Rattle.tc_sparkle_aead.specs.Calls.{atPoint, withoutHeader, afterHeader, beginBy, finalPoint, resetPoint}
 use Rattle.tc_sparkle_aead.proofs.phase.Phase.{the-type}
 
 pub opens-direction : (phase : Phase) → opens (directionOf phase) ≡ opening phase
@@ -23,6 +25,20 @@ opens-direction (Init d) = refl
 opens-direction (Aad d) = refl
 opens-direction (Data d) = refl
 opens-direction (Final d) = refl
+
+-- the data begins in Init and in Aad
+module _ (e : SparkleEngine) (d : Direction) (at : Point) {r : SparkleEngine} where
+  pub begin-init : e .current .phase ≡ Init d → at ≡ withoutHeader d (e .current) → r ≡ atPoint e at 0
+      → r ≡ beginBy (e .current .phase) e
+  begin-init is ea er =
+      let by : beginBy (Init d) e ≡ beginBy (e .current .phase) e = sym (ap (λ (x : Phase). beginBy x e) is) in
+      er ∙ ap (λ (x : Point). atPoint e x 0) ea ∙ by
+
+  pub begin-aad : (n : ℕ) → e .current .phase ≡ Aad d → at ≡ afterHeader (paramsOf (e .variant)) d (e .current)
+      → n ≡ paramsOf (e .variant) .big → r ≡ atPoint e at n → r ≡ beginBy (e .current .phase) e
+  begin-aad n is ea en er =
+      let by : beginBy (Aad d) e ≡ beginBy (e .current .phase) e = sym (ap (λ (x : Phase). beginBy x e) is) in
+      er ∙ ap₂ (atPoint e) ea en ∙ by
 
 -- neither Init nor Aad
 pub begin-kept : (phase : Phase) → OneOf (0 ∷ (3 ∷ (4 ∷ []))) (tagOf the-type phase) → (e : SparkleEngine)

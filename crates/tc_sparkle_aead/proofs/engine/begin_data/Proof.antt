@@ -1,11 +1,7 @@
 -- `begin_data` goes by the phase.
-use mathlib.Core.Path.{sym, ap, ap₂, _∙_}
-use Prim.Native.Nat.{ℕ}
 use borrow.Author.Needs.{needs}
-use Rattle.tc_sparkle_aead.specs.declared.phase.Phase.{Phase}
-use Rattle.tc_sparkle_aead.specs.declared.engine.Point.{Point}
-use Rattle.tc_sparkle_aead.specs.Calls.{atPoint, beginBy, beginData}
-use Rattle.tc_sparkle_aead.proofs.PhaseLaws.{begin-kept}
+use Rattle.tc_sparkle_aead.specs.Calls.{beginData}
+use Rattle.tc_sparkle_aead.proofs.PhaseLaws.{begin-init, begin-aad, begin-kept}
 use Rattle.tc_sparkle_aead.proofs.engine.begin_data.Statement.{statement}
 use Rattle.tc_sparkle_aead.proofs.engine.begin_data.Tie as tie
 
@@ -14,17 +10,15 @@ unfolding beginData
 returns c =
     let told = c .before .before .before in
     let e = told .before .before .before .args .e in
-    c .at-point .ensures ∙ ap (λ (at : Point). atPoint e at 0) (c .before .without-header .ensures)
-    ∙ sym (ap (λ (phase : Phase). beginBy phase e) (told .phase .given .1))
+    begin-init e _ _ (told .phase .given .1) (c .before .without-header .ensures) (c .at-point .ensures)
 
 returns-2 : tie.Need-returns-2
 unfolding beginData
 returns-2 c =
     let told = c .before .before .before .before in
     let e = told .before .before .before .args .e in
-    c .at-point2 .ensures
-    ∙ ap₂ (λ (at : Point) (n : ℕ). atPoint e at n) (c .before .before .after-header .ensures) (c .before .big-steps .ensures)
-    ∙ sym (ap (λ (phase : Phase). beginBy phase e) (told .phase2 .given .1))
+    begin-aad e _ _ _ (told .phase2 .given .1) (c .before .before .after-header .ensures) (c .before .big-steps .ensures)
+    (c .at-point2 .ensures)
 
 returns-3 : tie.Need-returns-3
 unfolding beginData
