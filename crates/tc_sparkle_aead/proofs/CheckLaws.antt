@@ -1,15 +1,16 @@
 -- The laws of the checks: under which hypothesis a definition of `specs.Checks` gives which answer.
-use mathlib.Core.Path.{_≡_, refl}
+use mathlib.Core.Path.{_≡_, refl, sym, ap, _∙_}
 use mathlib.Core.Bool.{Bool, true, false, cond}
 use Prim.Native.Nat.{ℕ, _+_, _-_, _*_, _^_, _≤_, _<_}
 use native.Mathlib.Omega.{arith}
 use borrow.Author.Tests.{lt-ltb, le-ltb, eq-eqb, ne-eqb}
 use Rattle.schwaemm.specs.Blocks.{ready}
 use Rattle.schwaemm.specs.Schwaemm.{Params}
-use Rattle.tc_sparkle_aead.specs.Checks.{opens, opening, heldIn, keep, updateLen, totalLen, startCheck}
+use Rattle.tc_sparkle_aead.specs.Checks.{opens, opening, heldIn, keep, then, within64, updateLen, totalLen, phaseCheck, room, whole, dataCheck, endCheck, startCheck}
 use Rattle.tc_sparkle_aead.specs.declared.phase.Direction.{Direction}
 use Rattle.tc_sparkle_aead.specs.declared.phase.Phase.{Phase}
-use Rattle.tc_sparkle_aead.specs.declared.aead_error.AeadError.the-variants.{InputTooLong}
+use Rattle.tc_sparkle_aead.specs.declared.aead_error.AeadError.{AeadError}
+use Rattle.tc_sparkle_aead.specs.declared.aead_error.AeadError.the-variants.{CiphertextTooShort, InputTooLong}
 use Rattle.tc_sparkle_aead.specs.declared.aead_error.AeadResult.{AeadResult}
 use Rattle.tc_sparkle_aead.specs.declared.aead_error.AeadResult.the-variants.{Ok, Err}
 use Rattle.tc_sparkle_aead.specs.declared.aead_init_error.AeadInitError.the-variants.{InvalidKeyLength, InvalidNonceLength, InvalidMacSize, NonceReuse}
@@ -19,16 +20,24 @@ cond-same : (b : Bool) {x : AeadResult} → cond b x x ≡ x
 cond-same true = refl
 cond-same false = refl
 
+-- a sum past 2^64 - 1, and one that is not
+module _ (sum n : ℕ) where
+  within64-over : 2 ^ 64 ≤ sum → within64 sum n ≡ Err InputTooLong
+  within64-over over = ap (λ (t : Bool). cond t (Ok n) (Err InputTooLong)) (le-ltb sum (2 ^ 64) over)
+
+  within64-fits : sum < 2 ^ 64 → within64 sum n ≡ Ok n
+  within64-fits fits = ap (λ (t : Bool). cond t (Ok n) (Err InputTooLong)) (lt-ltb sum (2 ^ 64) fits)
+
 module _ (p : Params) (phase : Phase) (held n : ℕ) where
   -- update_output_len: 7, or the bytes of the blocks that are ready.
   pub updateLen-over : 2 ^ 64 ≤ heldIn p phase held + n → updateLen p phase held n ≡ Err InputTooLong
   unfolding updateLen
-  updateLen-over over = rw (le-ltb _ _ over) refl
+  updateLen-over over = within64-over (heldIn p phase held + n) _ over
 
   pub updateLen-fits : heldIn p phase held + n < 2 ^ 64
       → updateLen p phase held n ≡ Ok (ready (p .rate) (keep p phase) (heldIn p phase held + n) * p .rate)
   unfolding updateLen
-  updateLen-fits fits = rw (lt-ltb _ _ fits) refl
+  updateLen-fits fits = within64-fits (heldIn p phase held + n) _ fits
 
   -- output_len: 7, or the sum, less the tag on an opening and with the tag otherwise.
   pub totalLen-over : 2 ^ 64 ≤ heldIn p phase held + n → totalLen p phase held n ≡ Err InputTooLong
@@ -76,3 +85,50 @@ module _ (p : Params) (direction : Direction) (key nonce size : ℕ) (repeats : 
         → startCheck p direction key nonce size repeats ≡ cond repeats (Refused NonceReuse) Started
     unfolding startCheck
     startCheck-sealing is-sealing = rw (eq-eqb _ _ k, eq-eqb _ _ n, eq-eqb _ _ s, is-sealing) refl
+
+-- ---- An end's check, from what its parts answer.
+module _ (p : Params) (phase : Phase) (held available : ℕ) (first : AeadResult) (ef : first ≡ phaseCheck phase) where
+  pub endCheck-refused : (x : AeadError) → first ≡ Err x → first ≡ endCheck p phase held available
+  unfolding endCheck
+  endCheck-refused x told =
+      told
+      ∙ ap (λ (k : AeadResult). then k (λ _. then (then (totalLen p phase held 0) (room available)) (whole p phase held)))
+      (sym told ∙ ef)
+
+  module _ (m : ℕ) (passed : first ≡ Ok m) (sized : AeadResult) (total : AeadResult) (et : total ≡ totalLen p phase held 0)
+      (es : sized ≡ then total (room available)) where
+    by-size : (k : AeadResult) → sized ≡ k → then k (whole p phase held) ≡ endCheck p phase held available
+    unfolding endCheck
+    by-size k told =
+        ap (λ (x : AeadResult). then x (whole p phase held))
+        (sym told ∙ es ∙ ap (λ (x : AeadResult). then x (room available)) et)
+        ∙ ap (λ (x : AeadResult). then x (λ _. then (then (totalLen p phase held 0) (room available)) (whole p phase held)))
+        (sym passed ∙ ef)
+
+    pub endCheck-unsized : (x : AeadError) → sized ≡ Err x → sized ≡ endCheck p phase held available
+    endCheck-unsized x told = told ∙ by-size (Err x) told
+
+    module _ (n : ℕ) (told : sized ≡ Ok n) where
+      pub endCheck-sealing : opening phase ≡ false → sized ≡ endCheck p phase held available
+      endCheck-sealing seals = told ∙ rw (← by-size (Ok n) told, seals) refl
+
+      module _ (opens : opening phase ≡ true) (minimum actual : ℕ) (em : minimum ≡ p .key) (ea : actual ≡ heldIn p phase held) where
+        pub endCheck-short : actual < minimum → Err (CiphertextTooShort minimum actual) ≡ endCheck p phase held available
+        endCheck-short short = rw (← by-size (Ok n) told, ← ea, ← em, opens, lt-ltb _ _ short) refl
+
+        pub endCheck-whole : minimum ≤ actual → sized ≡ endCheck p phase held available
+        endCheck-whole enough = told ∙ rw (← by-size (Ok n) told, ← ea, ← em, opens, le-ltb _ _ enough) refl
+
+-- ---- A data call's check.
+module _ (p : Params) (phase : Phase) (held n available : ℕ) (first : AeadResult) (ef : first ≡ phaseCheck phase) where
+  pub dataCheck-refused : (x : AeadError) → first ≡ Err x → first ≡ dataCheck p phase held n available
+  unfolding dataCheck
+  dataCheck-refused x told =
+      told ∙ ap (λ (k : AeadResult). then k (λ _. then (updateLen p phase held n) (room available))) (sym told ∙ ef)
+
+  pub dataCheck-sized : (m : ℕ) → first ≡ Ok m → (length sized : AeadResult) → length ≡ updateLen p phase held n
+      → sized ≡ then length (room available) → sized ≡ dataCheck p phase held n available
+  unfolding dataCheck
+  dataCheck-sized m passed length sized el es =
+      es ∙ ap (λ (k : AeadResult). then k (room available)) el
+      ∙ ap (λ (k : AeadResult). then k (λ _. then (updateLen p phase held n) (room available))) (sym passed ∙ ef)

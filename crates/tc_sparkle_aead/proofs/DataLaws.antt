@@ -15,11 +15,13 @@ use Rattle.tc_sparkle_aead.specs.declared.phase.Phase.{Phase}
 use Rattle.tc_sparkle_aead.specs.declared.engine.Point.{Point}
 use Rattle.tc_sparkle_aead.specs.declared.phase.Phase.the-variants.{Uninitialized, Init, Aad, Data, Final}
 use Rattle.tc_sparkle_aead.specs.declared.phase.Direction.{Direction}
+use Rattle.tc_sparkle_aead.specs.declared.aead_error.AeadError.{AeadError}
 use Rattle.tc_sparkle_aead.specs.declared.aead_error.AeadError.the-variants.{OutputTooShort, InputTooLong}
+use Rattle.tc_sparkle_aead.specs.declared.aead_error.AeadResult.{AeadResult}
 use Rattle.tc_sparkle_aead.specs.declared.aead_error.AeadResult.the-variants.{Ok, Err}
 use Rattle.tc_sparkle_aead.specs.declared.engine.SparkleEngine.{SparkleEngine}
 use Rattle.tc_sparkle_aead.specs.Checks.{keep, heldIn, then, room, updateLen, dataCheck}
-use Rattle.tc_sparkle_aead.specs.Calls.{stateIn, heldCount, blocks, plainOf, streamOut, written, atPoint, withoutHeader, afterHeader, beginBy}
+use Rattle.tc_sparkle_aead.specs.Calls.{stateIn, heldCount, blocks, plainOf, streamOut, written, atPoint, withoutHeader, afterHeader, beginBy, beginData, dataIn, dataOut, dataBy, dataOutBy, dataAnswer, processBytes, processBytesOut}
 use Rattle.tc_sparkle_aead.proofs.Fill.{length-zeros}
 use Rattle.tc_sparkle_aead.proofs.VariantLaws.{Small, small}
 use Rattle.tc_sparkle_aead.proofs.CallLaws.{stream-is, length-stream}
@@ -32,10 +34,10 @@ module _ (p : Params) (small : Small p) (k : ℕ) (at : Point) (input : List ℕ
   count-is e =
       e ∙ ap (ready (p .rate) k) (length-stream p at input small long ∙ ap (λ (n : ℕ). n + length input) (sym eh))
 
-  pub is-count : count ≡ ready (p .rate) k (h + length input) → count ≡ blocks p k at input
+  pub is-count : (n : ℕ) → count ≡ ready (p .rate) k n → n ≡ h + length input → count ≡ blocks p k at input
   unfolding blocks
-  is-count e =
-      e ∙ ap (ready (p .rate) k) (ap (λ (n : ℕ). n + length input) eh ∙ sym (length-stream p at input small long))
+  is-count n e en =
+      e ∙ ap (ready (p .rate) k) (en ∙ ap (λ (n : ℕ). n + length input) eh ∙ sym (length-stream p at input small long))
 
 -- what the blocks write
 pub written-at : (p : Params) (at : Point) (input out bytes : List ℕ) (h count : ℕ) → h ≡ heldCount p (at .phase) (at .held) → count ≡ blocks p (keep p (at .phase)) at input → length (given (p .rate) (messageBlock p (plainOf p (at .phase))) (crypt p) count (stateIn p (at .words)) (take h (at .buffer) ++ input)) ≡ count * p .rate → bytes ≡ given (p .rate) (messageBlock p (plainOf p (at .phase))) (crypt p) count (stateIn p (at .words)) (take h (at .buffer) ++ input) ++ drop (count * p .rate) out → bytes ≡ written (streamOut p at input) out
@@ -88,3 +90,29 @@ data-room (Data d) e q long input available n ok =
     (ap (λ (ph : Phase). heldCount p ph (e .current .held)) q) in
     rw count (update-room p (Data d) (e .current .held) (length input) available n ok)
 data-room (Final d) e q long input available n ok = absurd (let z : _≡_ {A = ℕ} 0 1 = cc in omega arith)
+
+-- a data call by its check: refused, and taken
+module _ (e : SparkleEngine) (input out : List ℕ) (answer : AeadResult)
+    (checked : answer ≡ dataAnswer e (length input) (length out)) where
+  pub data-refused : (x : AeadError) → answer ≡ Err x → record { answer = answer; engine = e } ≡ processBytes e input out
+  unfolding processBytes
+  data-refused x told =
+      (λ i. record { answer = told i; engine = e }) ∙ ap (λ (k : AeadResult). dataBy k e input) (sym told ∙ checked)
+
+  pub data-refused-out : (x : AeadError) → answer ≡ Err x → out ≡ processBytesOut e input out
+  unfolding processBytesOut
+  data-refused-out x told = ap (λ (k : AeadResult). dataOutBy k e input out) (sym told ∙ checked)
+
+  module _ (n : ℕ) (told : answer ≡ Ok n) (begun : SparkleEngine) (begins : begun ≡ beginData e) where
+    pub data-taken : (engine : SparkleEngine) → engine ≡ dataIn begun input
+        → record { answer = answer; engine = engine } ≡ processBytes e input out
+    unfolding processBytes
+    data-taken engine en =
+        (λ i. record { answer = told i; engine = (en ∙ ap (λ (x : SparkleEngine). dataIn x input) begins) i })
+        ∙ ap (λ (k : AeadResult). dataBy k e input) (sym told ∙ checked)
+
+    pub data-taken-out : (out₁ : List ℕ) → out₁ ≡ written (dataOut begun input) out → out₁ ≡ processBytesOut e input out
+    unfolding processBytesOut
+    data-taken-out out₁ eo =
+        eo ∙ ap (λ (x : SparkleEngine). written (dataOut x input) out) begins
+        ∙ ap (λ (k : AeadResult). dataOutBy k e input out) (sym told ∙ checked)

@@ -21,7 +21,7 @@ use Rattle.tc_sparkle_aead.specs.declared.engine.Done.{Done}
 use Rattle.tc_sparkle_aead.specs.declared.engine.Mac.{Mac}
 use Rattle.tc_sparkle_aead.specs.Variant.{paramsOf}
 use Rattle.tc_sparkle_aead.specs.Engine.{zeros, inArray, noMac, currentKey}
-use Rattle.tc_sparkle_aead.specs.Calls.{stateIn, putState, heldCount, heldBytes, lastState, lastSteps, written, sealTag, sealLast, openBlock, receivedTag, openLast, openTag, ended, readable, sealEnd, openEnd, openEndOutBy}
+use Rattle.tc_sparkle_aead.specs.Calls.{stateIn, putState, heldCount, heldBytes, lastState, lastSteps, written, sealTag, sealLast, openBlock, receivedTag, openLast, openTag, ended, endedBy, readable, sealEnd, openEnd, openEndOutBy}
 use Rattle.tc_sparkle_aead.proofs.VariantLaws.{Small, sizes, small}
 use Rattle.tc_sparkle_aead.proofs.Fill.{length-zeros}
 use Rattle.tc_sparkle_aead.proofs.StateLaws.{all-inArray, state-put, put-state, length-stateIn}
@@ -143,13 +143,11 @@ module _ (e : SparkleEngine) (hw : length (e .current .words) ≡ 16) (hb : leng
       tag-last p (sizes (e .variant)) (small (e .variant)) (e .current .words) hw (take (p .key) (e .pair .key)) _ _ words
       tag (rw (held-is p (e .current) held eh) at ew) et
 
-  pub sealed : (n steps : ℕ) (engine : SparkleEngine) → steps ≡ cond (ltb 0 held) (paramsOf (e .variant) .big) 0
-      → engine ≡ ended e Encrypt (record { readable = true; bytes = tag }) steps
-      → _≡_ {A = Done} (record { answer = Ok n; engine = engine }) (sealEnd e n)
-  unfolding sealEnd readable lastSteps
-  sealed n steps engine es ee =
-      ap (λ (x : SparkleEngine). record { answer = Ok n; engine = x })
-      (ee ∙ rw (tag-sealed, es, length-held (paramsOf (e .variant)) (e .current) held eh (small (e .variant)) hb))
+  pub sealed : (n steps : ℕ) (done : Done) → steps ≡ cond (ltb 0 held) (paramsOf (e .variant) .big) 0
+      → done ≡ endedBy e (Ok n) Encrypt (record { readable = true; bytes = tag }) steps → done ≡ sealEnd e n
+  unfolding sealEnd endedBy readable lastSteps
+  sealed n steps done es ee =
+      ee ∙ rw (tag-sealed, es, length-held (paramsOf (e .variant)) (e .current) held eh (small (e .variant)) hb)
 
   pub sealed-out : (bytes out out₁ out₂ : List ℕ) (k : ℕ) → held ≤ paramsOf (e .variant) .rate
       → bytes
@@ -262,13 +260,10 @@ take-zeros (suc n) (suc m) h = ap (_∷_ 0) (take-zeros n m (omega arith))
 module _ {e : SparkleEngine} {body steps : ℕ} {plain tag : List ℕ} {equal : Bool}
     (o : Opening e body plain tag steps equal) where
   -- the received tag is right
-  pub opened : (n : ℕ) (engine : SparkleEngine) → equal ≡ true
-      → engine ≡ ended e Decrypt (record { readable = true; bytes = tag }) steps
-      → _≡_ {A = Done} (record { answer = Ok n; engine = engine }) (openEnd e n)
-  unfolding openEnd readable
-  opened n engine right ee =
-      rw (sym (o .verdict) ∙ right)
-      (ap (λ (x : SparkleEngine). record { answer = Ok n; engine = x }) (ee ∙ rw (o .mac, o .run)))
+  pub opened : (n : ℕ) (done : Done) → equal ≡ true
+      → done ≡ endedBy e (Ok n) Decrypt (record { readable = true; bytes = tag }) steps → done ≡ openEnd e n
+  unfolding openEnd endedBy readable
+  opened n done right ee = rw (sym (o .verdict) ∙ right) (ee ∙ rw (o .mac, o .run))
 
   pub opened-out : (out out₁ : List ℕ) → equal ≡ true → out₁ ≡ paste out 0 plain body
       → out₁ ≡ written (openEndOutBy (same (receivedTag e) (openTag e)) e) out
@@ -276,15 +271,14 @@ module _ {e : SparkleEngine} {body steps : ℕ} {plain tag : List ℕ} {equal : 
       rw (sym (o .verdict) ∙ right) (e₁ ∙ paste-front out plain (openLast e) body (o .bytes) (o .last))
 
   -- it is wrong
-  pub unopened : (n : ℕ) (engine : SparkleEngine) (mac : Mac) → equal ≡ false → mac ≡ noMac → engine ≡ ended e Decrypt mac steps
-      → _≡_ {A = Done} (record { answer = Err AuthenticationFailed; engine = engine }) (openEnd e n)
-  unfolding openEnd
-  unopened n engine mac wrong em ee =
-      rw (sym (o .verdict) ∙ wrong)
-      (ap (λ (x : SparkleEngine). record { answer = Err AuthenticationFailed; engine = x }) (ee ∙ rw (em, o .run)))
+  pub unopened : (n : ℕ) (done : Done) (mac : Mac) → equal ≡ false → mac ≡ noMac
+      → done ≡ endedBy e (Err AuthenticationFailed) Decrypt mac steps → done ≡ openEnd e n
+  unfolding openEnd endedBy
+  unopened n done mac wrong em ee = rw (sym (o .verdict) ∙ wrong) (ee ∙ rw (em, o .run))
 
-  pub unopened-out : (out out₁ : List ℕ) → equal ≡ false → out₁ ≡ paste out 0 (zeros 64) body
+  pub unopened-out : (out out₁ bytes : List ℕ) → equal ≡ false → out₁ ≡ paste out 0 bytes body → bytes ≡ zeros 64
       → out₁ ≡ written (openEndOutBy (same (receivedTag e) (openTag e)) e) out
-  unopened-out out out₁ wrong e₁ =
+  unopened-out out out₁ bytes wrong e₁ eb =
       rw (sym (o .verdict) ∙ wrong, o .block)
-      (e₁ ∙ paste-front out (zeros 64) (zeros body) body (take-zeros body 64 (o .within)) (length-zeros body))
+      (e₁
+      ∙ paste-front out bytes (zeros body) body (ap (take body) eb ∙ take-zeros body 64 (o .within)) (length-zeros body))

@@ -1,6 +1,6 @@
 -- An end by its check, over plain variables: what a check that passes tells of the held bytes and of the output's room,
 -- and what the call then answers.
-use mathlib.Core.Path.{_≡_, refl, sym, _∙_}
+use mathlib.Core.Path.{_≡_, refl, sym, ap, _∙_}
 use mathlib.Core.Bool.{Bool, true, false, cond}
 use mathlib.Core.List.{List, _++_}
 use Prim.Native.Nat.{ℕ, _+_, _^_, _≤_}
@@ -19,7 +19,7 @@ use Rattle.tc_sparkle_aead.specs.declared.engine.Done.{Done}
 use Rattle.tc_sparkle_aead.specs.declared.engine.SparkleEngine.{SparkleEngine}
 use Rattle.tc_sparkle_aead.specs.Variant.{paramsOf}
 use Rattle.tc_sparkle_aead.specs.Checks.{opening, keep, heldIn, then, within64, room, phaseCheck, totalLen, whole, endCheck}
-use Rattle.tc_sparkle_aead.specs.Calls.{heldCount, atPoint, withoutHeader, afterHeader, beginBy, beginData, written, sealLast, sealTag, sealEnd, receivedTag, openTag, openEnd, openEndOutBy, finalAnswer, doFinal, doFinalOut}
+use Rattle.tc_sparkle_aead.specs.Calls.{heldCount, atPoint, withoutHeader, afterHeader, beginBy, beginData, written, sealLast, sealTag, sealEnd, receivedTag, openTag, openEnd, openEndOutBy, finalBy, finalOutBy, finalAnswer, doFinal, doFinalOut}
 
 -- ---- A check that passes.
 
@@ -184,11 +184,14 @@ module _ {e begun : SparkleEngine} {out : List ℕ} {n : ℕ} {opens : Bool} (t 
     final-opened-out out₁ ed = rw (t .passed, opened, ← t .begins) ed
 
 -- a refused end
-module _ (e : SparkleEngine) (out : List ℕ) (x : AeadError) (no : finalAnswer e (length out) ≡ Err x) where
-  pub final-refused : _≡_ {A = Done} (record { answer = Err x; engine = e }) (doFinal e out)
+module _ (e : SparkleEngine) (out : List ℕ) (answer : AeadResult) (x : AeadError)
+    (checked : answer ≡ finalAnswer e (length out)) (no : answer ≡ Err x) where
+  pub final-refused : _≡_ {A = Done} (record { answer = answer; engine = e }) (doFinal e out)
   unfolding doFinal
-  final-refused = rw no refl
+  final-refused =
+      ap (λ (k : AeadResult). record { answer = k; engine = e }) no
+      ∙ sym (ap (λ (k : AeadResult). finalBy k e) (sym checked ∙ no))
 
   pub final-refused-out : out ≡ doFinalOut e out
   unfolding doFinalOut
-  final-refused-out = rw no refl
+  final-refused-out = sym (ap (λ (k : AeadResult). finalOutBy k e out) (sym checked ∙ no))

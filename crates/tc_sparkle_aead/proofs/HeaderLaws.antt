@@ -4,16 +4,19 @@ use mathlib.Core.List.{List, [], _∷_}
 use Prim.Native.Nat.{ℕ, _+_, _*_, _^_, _≤_, _<_}
 use native.Mathlib.Nat.{mul-le-mul-left}
 use native.Mathlib.Omega.{arith}
+use borrow.Author.Tests.{ne-eqb}
 use lib.ListN.{length}
 use Rattle.schwaemm.specs.Schwaemm.{Params, Sizes, absorbBlock}
 use Rattle.tc_sparkle_aead.specs.declared.phase.Direction.{Direction}
-use Rattle.tc_sparkle_aead.specs.declared.phase.Phase.the-variants.{Aad}
+use Rattle.tc_sparkle_aead.specs.declared.phase.Phase.{Phase}
+use Rattle.tc_sparkle_aead.specs.declared.phase.Phase.the-variants.{Uninitialized, Init, Aad, Data, Final}
+use Rattle.tc_sparkle_aead.specs.declared.aead_error.AeadError.{AeadError}
 use Rattle.tc_sparkle_aead.specs.declared.aead_error.AeadResult.{AeadResult}
-use Rattle.tc_sparkle_aead.specs.declared.aead_error.AeadResult.the-variants.{Ok}
+use Rattle.tc_sparkle_aead.specs.declared.aead_error.AeadResult.the-variants.{Ok, Err}
 use Rattle.tc_sparkle_aead.specs.declared.engine.Point.{Point}
 use Rattle.tc_sparkle_aead.specs.declared.engine.SparkleEngine.{SparkleEngine}
 use Rattle.tc_sparkle_aead.specs.Variant.{paramsOf}
-use Rattle.tc_sparkle_aead.specs.Checks.{aadCheck}
+use Rattle.tc_sparkle_aead.specs.Checks.{directionOf, headerCheck, aadCheck}
 use Rattle.tc_sparkle_aead.specs.Calls.{streamed, atPoint, headed, headedSteps, aadIn, aadBy, processAadBytes}
 use Rattle.tc_sparkle_aead.proofs.VariantLaws.{Small}
 
@@ -30,34 +33,58 @@ module _ (p : Params) (d : Direction) (at : Point) where
   headed-some [] h = absurd (omega arith)
   headed-some (x ∷ header) h = refl
 
--- a header call by its check
-pub processAadBytes-by : (e : SparkleEngine) (input : List ℕ) (check answer : AeadResult)
-    → check ≡ aadCheck (e .current .phase) (length input) → check ≡ answer
-    → processAadBytes e input ≡ aadBy answer e input
-unfolding processAadBytes
-processAadBytes-by e input check answer ec told = ap (λ (x : AeadResult). aadBy x e input) (sym ec ∙ told)
+-- a header call without bytes
+pub aad-empty : (e : SparkleEngine) (input : List ℕ) → length input ≡ 0
+    → record { answer = Ok 0; engine = e } ≡ processAadBytes e input
+unfolding processAadBytes aadCheck
+aad-empty e [] none = refl
+aad-empty e (x ∷ input) none = absurd (omega arith)
 
--- a header call that is taken, without bytes and with bytes
-module _ (n : ℕ) (e : SparkleEngine) where
-  pub aadBy-none : (input : List ℕ) → length input ≡ 0 → aadBy (Ok n) e input ≡ record { answer = Ok 0; engine = e }
-  aadBy-none [] h = refl
-  aadBy-none (x ∷ input) h = absurd (omega arith)
-
-  pub aadBy-some : (input : List ℕ) → 0 < length input
-      → aadBy (Ok n) e input ≡ record { answer = Ok 0; engine = aadIn (e .current .phase) e input }
-  aadBy-some [] h = absurd (omega arith)
-  aadBy-some (x ∷ input) h = refl
-
--- the engine after a header, from its point and its steps
-pub header-taken : (e : SparkleEngine) (d : Direction) (input : List ℕ) (next : Point) (n : ℕ) {r : SparkleEngine}
-    → 0 < length input → r ≡ atPoint e next n
-    → next ≡ streamed (paramsOf (e .variant)) 0 (absorbBlock (paramsOf (e .variant))) (Aad d) (e .current) input
-    → n ≡ headedSteps (paramsOf (e .variant)) (e .current) input
-    → r
-    ≡ atPoint e (headed (paramsOf (e .variant)) d (e .current) input)
+-- a phase whose check passes is Init or Aad, and the check counts nothing
+aadIn-passed : (phase : Phase) (n : ℕ) (e : SparkleEngine) (input : List ℕ) → headerCheck phase ≡ Ok n
+    → aadIn phase e input
+    ≡ atPoint e (headed (paramsOf (e .variant)) (directionOf phase) (e .current) input)
     (headedSteps (paramsOf (e .variant)) (e .current) input)
-header-taken e d input next n some er ep en =
-    er ∙ ap₂ (atPoint e) (ep ∙ sym (headed-some (paramsOf (e .variant)) d (e .current) input some)) en
+aadIn-passed Uninitialized n e input passed = absurd (let z : _≡_ {A = ℕ} 0 1 = cc in omega arith)
+aadIn-passed (Init d) n e input passed = refl
+aadIn-passed (Aad d) n e input passed = refl
+aadIn-passed (Data d) n e input passed = absurd (let z : _≡_ {A = ℕ} 0 1 = cc in omega arith)
+aadIn-passed (Final d) n e input passed = absurd (let z : _≡_ {A = ℕ} 0 1 = cc in omega arith)
+
+count-zero : (phase : Phase) (n : ℕ) → headerCheck phase ≡ Ok n → headerCheck phase ≡ Ok 0
+count-zero Uninitialized n e = absurd (let z : _≡_ {A = ℕ} 0 1 = cc in omega arith)
+count-zero (Init d) n e = refl
+count-zero (Aad d) n e = refl
+count-zero (Data d) n e = absurd (let z : _≡_ {A = ℕ} 0 1 = cc in omega arith)
+count-zero (Final d) n e = absurd (let z : _≡_ {A = ℕ} 0 1 = cc in omega arith)
+
+aadBy-some : (n : ℕ) (e : SparkleEngine) (input : List ℕ) → 0 < length input
+    → aadBy (Ok n) e input ≡ record { answer = Ok 0; engine = aadIn (e .current .phase) e input }
+aadBy-some n e [] h = absurd (omega arith)
+aadBy-some n e (x ∷ input) h = refl
+
+-- a header call with bytes by its phase's check: refused, and taken
+module _ (e : SparkleEngine) (input : List ℕ) (answer : AeadResult) (some : length input ≡ 0 → ⊥)
+    (checked : answer ≡ headerCheck (e .current .phase)) where
+  by-check : (k : AeadResult) → answer ≡ k → aadBy k e input ≡ processAadBytes e input
+  unfolding processAadBytes aadCheck
+  by-check k told = rw (ne-eqb (length input) 0 some) (ap (λ (x : AeadResult). aadBy x e input) (sym told ∙ checked))
+
+  pub aad-refused : (x : AeadError) → answer ≡ Err x → record { answer = answer; engine = e } ≡ processAadBytes e input
+  aad-refused x told = (λ i. record { answer = told i; engine = e }) ∙ by-check (Err x) told
+
+  pub aad-taken : (n : ℕ) → answer ≡ Ok n → (d : Direction) (next : Point) (steps : ℕ) (engine : SparkleEngine)
+      → d ≡ directionOf (e .current .phase) → next ≡ headed (paramsOf (e .variant)) d (e .current) input
+      → steps ≡ headedSteps (paramsOf (e .variant)) (e .current) input → engine ≡ atPoint e next steps
+      → record { answer = answer; engine = engine } ≡ processAadBytes e input
+  aad-taken n told d next steps engine ed ep es en =
+      let p = paramsOf (e .variant) in
+      let phase = e .current .phase in
+      let passed = sym checked ∙ told in
+      let ep′ = ep ∙ ap (λ (x : Direction). headed p x (e .current) input) ed in
+      let en′ = en ∙ ap₂ (atPoint e) ep′ es ∙ sym (aadIn-passed phase n e input passed) in
+      (λ i. record { answer = (checked ∙ count-zero phase n passed) i; engine = en′ i })
+      ∙ sym (aadBy-some n e input (omega arith)) ∙ by-check (Ok n) told
 
 -- the steps of `count` blocks of n bytes fit: a block has at least 8 bytes and runs at most 12 steps
 pub steps-fit : (p : Params) → Sizes p → Small p → (count n : ℕ) → count * p .rate ≤ n → n < 2 ^ 63 + 64

@@ -1,6 +1,7 @@
 -- The laws that the proofs of `tc_sparkle_aead`, and of the crates above it, cite.
 pub mod VariantLaws
 pub mod CheckLaws
+pub mod PhaseLaws
 pub mod Fill
 pub mod SameLaws
 pub mod WordLaws

@@ -129,9 +129,9 @@ module _ (e : SparkleEngine) (d : Direction) (key nonce : List ℕ) (size : ℕ)
       (sym told ∙ ec ∙ ap (startCheck (paramsOf (e .variant)) d (length key) (length nonce) size) ea)
 
   pub init-taken : check ≡ Taken → engine ≡ started e d key nonce header
-      → record { answer = Taken; engine = engine } ≡ init e d key nonce size header
-  init-taken told en = (λ i. record { answer = Taken; engine = en i }) ∙ init-by Taken told
+      → record { answer = check; engine = engine } ≡ init e d key nonce size header
+  init-taken told en = (λ i. record { answer = told i; engine = en i }) ∙ init-by Taken told
 
   pub init-refused : (x : AeadInitError) → check ≡ Refused x → engine ≡ refused e
-      → record { answer = Refused x; engine = engine } ≡ init e d key nonce size header
-  init-refused x told en = (λ i. record { answer = Refused x; engine = en i }) ∙ init-by (Refused x) told
+      → record { answer = check; engine = engine } ≡ init e d key nonce size header
+  init-refused x told en = (λ i. record { answer = told i; engine = en i }) ∙ init-by (Refused x) told

@@ -290,6 +290,9 @@ ended e d mac n =
       steps = addSteps n (e .steps);
     }
 
+unfoldable pub endedBy : SparkleEngine → AeadResult → Direction → Mac → ℕ → Done
+endedBy e answer d mac n = record { answer = answer; engine = ended e d mac n }
+
 unfoldable pub readable : List ℕ → Mac
 readable tag = record { readable = true; bytes = inArray 32 tag }
 

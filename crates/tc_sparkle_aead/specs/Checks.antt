@@ -18,7 +18,14 @@ use Rattle.tc_sparkle_aead.specs.declared.aead_init_error.AeadInitError.
 use Rattle.tc_sparkle_aead.specs.declared.aead_init_error.AeadInitResult.{AeadInitResult}
 use Rattle.tc_sparkle_aead.specs.declared.aead_init_error.AeadInitResult.the-variants.{Ok as Started, Err as Refused}
 
--- Whether a direction, and a phase, opens. `Uninitialized` counts as sealing.
+-- A phase's direction, and whether a direction, and a phase, opens. `Uninitialized` counts as sealing.
+abbrev pub directionOf : Phase → Direction
+directionOf Uninitialized = Encrypt
+directionOf (Init d) = d
+directionOf (Aad d) = d
+directionOf (Data d) = d
+directionOf (Final d) = d
+
 abbrev pub opens : Direction → Bool
 opens Encrypt = false
 opens Decrypt = true

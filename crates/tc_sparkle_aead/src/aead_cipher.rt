@@ -29,15 +29,16 @@ pub fn init(
     let variant = e.variant;
     let pair = e.pair;
     let again = engine::repeats(variant, pair, key, nonce);
-    match checks::start_check(variant, direction, key.len(), nonce.len(), size, again) {
-        AeadInitResult::Ok => Started {
-            answer: AeadInitResult::Ok,
-            engine: engine::start(e, direction, key, nonce, header),
-        },
-        AeadInitResult::Err(x) => Started {
-            answer: AeadInitResult::Err(x),
+    let answer = checks::start_check(variant, direction, key.len(), nonce.len(), size, again);
+    let AeadInitResult::Ok = answer else {
+        return Started {
+            answer,
             engine: engine::refused(e),
-        },
+        };
+    };
+    Started {
+        answer,
+        engine: engine::start(e, direction, key, nonce, header),
     }
 }
 
@@ -45,25 +46,23 @@ pub fn init(
 pub fn process_aad_bytes(e: SparkleEngine, input: &[u8]) -> Done
     ensures { λ r. ⌜ r ≡ processAadBytes e (now (input .entry)) ⌝ }
 {
+    let variant = e.variant;
     let at = e.current;
     let phase = at.phase;
-    match checks::aad_check(phase, input.len()) {
-        AeadResult::Err(x) => Done {
-            answer: AeadResult::Err(x),
+    if input.len() == 0 {
+        return Done {
+            answer: AeadResult::Ok(0),
             engine: e,
-        },
-        AeadResult::Ok(_) => {
-            if input.len() == 0 {
-                return Done {
-                    answer: AeadResult::Ok(0),
-                    engine: e,
-                };
-            }
-            Done {
-                answer: AeadResult::Ok(0),
-                engine: engine::header_in(e, input),
-            }
-        }
+        };
+    }
+    let answer = checks::header_check(phase);
+    let AeadResult::Ok(_) = answer else {
+        return Done { answer, engine: e };
+    };
+    let next = engine::absorb(variant, checks::direction(phase), at, input);
+    Done {
+        answer,
+        engine: engine::at_point(e, next, engine::header_steps(variant, at, input)),
     }
 }
 
@@ -75,18 +74,14 @@ pub fn process_bytes(e: SparkleEngine, input: &[u8], output: &mut [u8]) -> Done
     let variant = e.variant;
     let at = e.current;
     let phase = at.phase;
-    match checks::data_check(variant, phase, at.held, input.len(), output.len()) {
-        AeadResult::Err(x) => Done {
-            answer: AeadResult::Err(x),
-            engine: e,
-        },
-        AeadResult::Ok(n) => {
-            let begun = engine::begin_data(e);
-            Done {
-                answer: AeadResult::Ok(n),
-                engine: engine::data_in(begun, input, output),
-            }
-        }
+    let answer = checks::data_check(variant, phase, at.held, input.len(), output.len());
+    let AeadResult::Ok(_) = answer else {
+        return Done { answer, engine: e };
+    };
+    let begun = engine::begin_data(e);
+    Done {
+        answer,
+        engine: engine::data_in(begun, input, output),
     }
 }
 
@@ -98,19 +93,15 @@ pub fn do_final(e: SparkleEngine, output: &mut [u8]) -> Done
     let variant = e.variant;
     let at = e.current;
     let phase = at.phase;
-    match checks::end_check(variant, phase, at.held, output.len()) {
-        AeadResult::Err(x) => Done {
-            answer: AeadResult::Err(x),
-            engine: e,
-        },
-        AeadResult::Ok(n) => {
-            let begun = engine::begin_data(e);
-            if checks::opening(phase) {
-                return engine::open_end(begun, n, output);
-            }
-            engine::seal_end(begun, n, output)
-        }
+    let answer = checks::end_check(variant, phase, at.held, output.len());
+    let AeadResult::Ok(n) = answer else {
+        return Done { answer, engine: e };
+    };
+    let begun = engine::begin_data(e);
+    if checks::opening(phase) {
+        return engine::open_end(begun, n, output);
     }
+    engine::seal_end(begun, n, output)
 }
 
 // How many bytes the next data call of n bytes writes.
@@ -134,7 +125,7 @@ pub fn output_len(e: SparkleEngine, n: usize) -> AeadResult
 }
 
 // Drops the readable tag and restarts the message, unless a sealing has begun its data.
-pub fn reset(e: SparkleEngine) -> SparkleEngine
+pub fn reset(mut e: SparkleEngine) -> SparkleEngine
     ensures { λ r. ⌜ r ≡ reset e ⌝ }
 {
     let at = e.current;
@@ -147,11 +138,10 @@ pub fn reset(e: SparkleEngine) -> SparkleEngine
         current: steps.initial,
         initial: steps.initial,
     };
-    let mut r = e;
-    r.current = current;
-    r.mac = mac;
-    r.steps = back;
-    r
+    e.current = current;
+    e.mac = mac;
+    e.steps = back;
+    e
 }
 
 // The tag after a successful end, until the next init or reset.

@@ -43,20 +43,6 @@ pub(crate) fn gather(buffer: [u8; 64], held: usize, input: &[u8], pos: usize, n:
     r
 }
 
-// The first n bytes of an array.
-pub(crate) fn first_bytes(buffer: [u8; 64], n: usize) -> [u8; 64]
-    requires { ⌜ n ≤ 64 ⌝ }
-    ensures { λ r. ⌜ r ≡ inArray 64 (take n buffer) ⌝ }
-{
-    let mut r = [0u8; 64];
-    let mut i = 0;
-    while i < n {
-        r[i] = buffer[i];
-        i += 1;
-    }
-    r
-}
-
 // A slice of at most 32 bytes, with zeros behind it.
 pub(crate) fn in_array(bytes: &[u8]) -> [u8; 32]
     requires { ⌜ length (now bytes) ≤ 32 ⌝ }
@@ -332,12 +318,17 @@ pub(crate) fn crypt_blocks(
 
 // ---- the last block, the start and the tag
 
-// A short block gets byte 80 (hexadecimal) and zeros.
+// The first n bytes of a buffer as a block: a short one gets byte 80 (hexadecimal) and zeros.
 fn pad(variant: SparkleVariant, buffer: [u8; 64], n: usize) -> [u8; 64]
     requires { ⌜ n ≤ paramsOf variant .rate ⌝ }
     ensures { λ r. ⌜ r ≡ inArray 64 (padded (paramsOf variant) (take n buffer)) ⌝ }
 {
-    let mut r = first_bytes(buffer, n);
+    let mut r = [0u8; 64];
+    let mut i = 0;
+    while i < n {
+        r[i] = buffer[i];
+        i += 1;
+    }
     if n < variant.nonce_bytes() {
         r[n] = 0x80;
     }

@@ -2,9 +2,9 @@
 // 01's tables ("At the entry: phase and call"). Sums are compared by subtraction.
 ghost use mathlib.Core.Path.{_≡_};
 ghost use Rattle.tc_sparkle_aead.specs.Variant.{paramsOf};
-ghost use Rattle.tc_sparkle_aead.specs.Checks.{opens, opening, heldIn, keep, then, updateLen, totalLen, phaseCheck, room, whole, headerCheck, aadCheck, dataCheck, endCheck, startCheck};
+ghost use Rattle.tc_sparkle_aead.specs.Checks.{opens, directionOf, opening, heldIn, keep, then, updateLen, totalLen, phaseCheck, room, headerCheck, dataCheck, endCheck, startCheck};
 ghost use Rattle.schwaemm.specs.Blocks.{ready};
-ghost use Prim.Native.Nat.{_-_, _*_, min};
+ghost use Prim.Native.Nat.{_-_, min};
 use super::aead_error::AeadError;
 use super::aead_error::AeadResult;
 use super::aead_init_error::AeadInitError;
@@ -22,17 +22,24 @@ fn opens(d: Direction) -> bool
     }
 }
 
+// The direction of a phase; `Uninitialized`, which has none, counts as sealing.
+pub(crate) fn direction(phase: Phase) -> Direction
+    ensures { λ r. ⌜ r ≡ directionOf phase ⌝ }
+{
+    match phase {
+        Phase::Uninitialized => Direction::Encrypt,
+        Phase::Init(d) => d,
+        Phase::Aad(d) => d,
+        Phase::Data(d) => d,
+        Phase::Final(d) => d,
+    }
+}
+
 // Whether a phase opens.
 pub(crate) fn opening(phase: Phase) -> bool
     ensures { λ r. ⌜ r ≡ opening phase ⌝ }
 {
-    match phase {
-        Phase::Uninitialized => false,
-        Phase::Init(d) => opens(d),
-        Phase::Aad(d) => opens(d),
-        Phase::Data(d) => opens(d),
-        Phase::Final(d) => opens(d),
-    }
+    opens(direction(phase))
 }
 
 // The bytes that stay, besides one more: on an opening the tag's.
@@ -73,12 +80,11 @@ pub(crate) fn saturating_sub(a: usize, b: usize) -> usize
     if a < b { 0 } else { a - b }
 }
 
-// How many of n bytes may go in blocks while `keep` bytes and one more stay.
-fn ready_bytes(rate: usize, keep: usize, n: usize) -> usize
-    ensures { λ r. ⌜ r ≡ ready rate keep n * rate ⌝ }
+// How many blocks of n bytes go while `keep` bytes and one more stay.
+pub(crate) fn block_count(variant: SparkleVariant, keep: usize, n: usize) -> usize
+    ensures { λ r. ⌜ r ≡ ready (paramsOf variant .rate) keep n ⌝ }
 {
-    let most = saturating_sub(saturating_sub(n, keep), 1);
-    if rate == 0 { 0 } else { most - most % rate }
+    saturating_sub(saturating_sub(n, keep), 1) / variant.nonce_bytes()
 }
 
 // The length that a data call of n bytes writes.
@@ -89,7 +95,9 @@ pub(crate) fn update_len(variant: SparkleVariant, phase: Phase, held: usize, n: 
     if usize::MAX - h < n {
         return AeadResult::Err(AeadError::InputTooLong);
     }
-    AeadResult::Ok(ready_bytes(variant.nonce_bytes(), keep(variant, phase), h + n))
+    let count = block_count(variant, keep(variant, phase), h + n);
+    let written = count * variant.nonce_bytes();
+    AeadResult::Ok(written)
 }
 
 // The length that data calls of n bytes and the end write together.
@@ -124,49 +132,24 @@ fn phase_check(phase: Phase) -> AeadResult
     }
 }
 
-// Whether the output holds what is required.
-fn room(available: usize, required: usize) -> AeadResult
-    ensures { λ r. ⌜ r ≡ room available required ⌝ }
-{
-    if available < required {
-        AeadResult::Err(AeadError::OutputTooShort {
-            required,
-            available,
-        })
-    } else {
-        AeadResult::Ok(required)
-    }
-}
-
 // The length that a query gave, where the output holds it.
 fn with_room(length: AeadResult, available: usize) -> AeadResult
     ensures { λ r. ⌜ r ≡ then length (room available) ⌝ }
 {
-    match length {
-        AeadResult::Err(e) => AeadResult::Err(e),
-        AeadResult::Ok(required) => room(available, required),
+    let AeadResult::Ok(required) = length else {
+        return length;
+    };
+    if available < required {
+        return AeadResult::Err(AeadError::OutputTooShort {
+            required,
+            available,
+        });
     }
-}
-
-// Whether an opening has as much ciphertext as a tag.
-fn whole(variant: SparkleVariant, phase: Phase, held: usize, n: usize) -> AeadResult
-    ensures { λ r. ⌜ r ≡ whole (paramsOf variant) phase held n ⌝ }
-{
-    let h = held_in(variant, phase, held);
-    let tag = variant.tag_bytes();
-    if opening(phase) {
-        if h < tag {
-            return AeadResult::Err(AeadError::CiphertextTooShort {
-                minimum: tag,
-                actual: h,
-            });
-        }
-    }
-    AeadResult::Ok(n)
+    length
 }
 
 // Whether a phase takes a header that is not empty.
-fn header_check(phase: Phase) -> AeadResult
+pub(crate) fn header_check(phase: Phase) -> AeadResult
     ensures { λ r. ⌜ r ≡ headerCheck phase ⌝ }
 {
     match phase {
@@ -175,17 +158,6 @@ fn header_check(phase: Phase) -> AeadResult
         Phase::Aad(_) => AeadResult::Ok(0),
         Phase::Data(_) => AeadResult::Err(AeadError::AadAfterData),
         Phase::Final(_) => AeadResult::Err(AeadError::AlreadyFinalized),
-    }
-}
-
-// Whether a header call of n bytes is taken.
-pub(crate) fn aad_check(phase: Phase, n: usize) -> AeadResult
-    ensures { λ r. ⌜ r ≡ aadCheck phase n ⌝ }
-{
-    if n == 0 {
-        AeadResult::Ok(0)
-    } else {
-        header_check(phase)
     }
 }
 
@@ -199,13 +171,15 @@ pub(crate) fn data_check(
 ) -> AeadResult
     ensures { λ r. ⌜ r ≡ dataCheck (paramsOf variant) phase held n available ⌝ }
 {
-    match phase_check(phase) {
-        AeadResult::Err(e) => AeadResult::Err(e),
-        AeadResult::Ok(_) => with_room(update_len(variant, phase, held, n), available),
-    }
+    let answer = phase_check(phase);
+    let AeadResult::Ok(_) = answer else {
+        return answer;
+    };
+    with_room(update_len(variant, phase, held, n), available)
 }
 
-// Whether an end into an output of `available` is taken, and what it writes.
+// Whether an end into an output of `available` is taken, and what it writes. An opening must have as
+// much ciphertext as a tag.
 pub(crate) fn end_check(
     variant: SparkleVariant,
     phase: Phase,
@@ -214,13 +188,22 @@ pub(crate) fn end_check(
 ) -> AeadResult
     ensures { λ r. ⌜ r ≡ endCheck (paramsOf variant) phase held available ⌝ }
 {
-    match phase_check(phase) {
-        AeadResult::Err(e) => AeadResult::Err(e),
-        AeadResult::Ok(_) => match with_room(total_len(variant, phase, held, 0), available) {
-            AeadResult::Err(e) => AeadResult::Err(e),
-            AeadResult::Ok(n) => whole(variant, phase, held, n),
-        },
+    let answer = phase_check(phase);
+    let AeadResult::Ok(_) = answer else {
+        return answer;
+    };
+    let length = with_room(total_len(variant, phase, held, 0), available);
+    let AeadResult::Ok(_) = length else {
+        return length;
+    };
+    if opening(phase) {
+        let minimum = variant.tag_bytes();
+        let actual = held_in(variant, phase, held);
+        if actual < minimum {
+            return AeadResult::Err(AeadError::CiphertextTooShort { minimum, actual });
+        }
     }
+    length
 }
 
 // Whether a start is taken. `repeats` says whether its key and nonce are the last loaded pair.

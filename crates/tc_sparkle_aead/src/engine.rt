@@ -8,11 +8,10 @@ ghost use mathlib.Core.Bool.{cond};
 ghost use lib.Dec.{ltb};
 ghost use lib.ListN.{length, take};
 ghost use Rattle.schwaemm.specs.Bytes.{same};
-ghost use Rattle.schwaemm.specs.Blocks.{ready};
-ghost use Rattle.schwaemm.specs.Schwaemm.{absorbBlock, messageBlock};
+ghost use Rattle.schwaemm.specs.Schwaemm.{messageBlock};
 ghost use Rattle.tc_sparkle_aead.specs.Checks.{keep};
 ghost use Rattle.tc_sparkle_aead.specs.Engine.{noMessage, noMac, newEngine, repeats, remember};
-ghost use Rattle.tc_sparkle_aead.specs.Calls.{heldCount, blocks, streamed, addSteps, atPoint, refused, startPoint, headed, headedSteps, started, aadIn, beginData, streamOut, afterHeader, withoutHeader, plainOf, dataIn, dataOut, written, finalPoint, stateIn, putState, lastState, sealLast, sealTag, receivedTag, openTag, ended, sealEnd, openEnd, openEndOutBy, resetPoint};
+ghost use Rattle.tc_sparkle_aead.specs.Calls.{heldCount, blocks, streamed, addSteps, atPoint, refused, startPoint, headed, headedSteps, started, beginData, streamOut, afterHeader, withoutHeader, plainOf, dataIn, dataOut, written, finalPoint, stateIn, putState, lastState, sealLast, sealTag, receivedTag, openTag, endedBy, sealEnd, openEnd, openEndOutBy, resetPoint};
 use super::aead_error::AeadError;
 use super::aead_error::AeadResult;
 use super::aead_init_error::AeadInitResult;
@@ -88,19 +87,17 @@ pub(crate) fn no_message() -> Point
 pub fn new(variant: SparkleVariant) -> SparkleEngine
     ensures { λ r. ⌜ r ≡ newEngine variant ⌝ }
 {
+    let none = no_message();
     SparkleEngine {
         variant,
-        current: no_message(),
-        initial: no_message(),
+        current: none,
+        initial: none,
         pair: Pair {
             loaded: false,
             key: [0; 32],
             nonce: [0; 32],
         },
-        mac: Mac {
-            readable: false,
-            bytes: [0; 32],
-        },
+        mac: no_mac(),
         steps: Steps {
             current: 0,
             initial: 0,
@@ -150,13 +147,6 @@ pub(crate) fn held_count(variant: SparkleVariant, phase: Phase, held: usize) -> 
     }
 }
 
-// How many blocks of n bytes go while `keep` bytes and one more stay.
-pub(crate) fn block_count(variant: SparkleVariant, keep: usize, n: usize) -> usize
-    ensures { λ r. ⌜ r ≡ ready (paramsOf variant .rate) keep n ⌝ }
-{
-    checks::saturating_sub(checks::saturating_sub(n, keep), 1) / variant.nonce_bytes()
-}
-
 pub(crate) fn add_steps(s: Steps, n: u64) -> Steps
     ensures { λ r. ⌜ r ≡ addSteps n s ⌝ }
 {
@@ -167,33 +157,36 @@ pub(crate) fn add_steps(s: Steps, n: u64) -> Steps
 }
 
 // The engine at another point, after n more steps.
-pub(crate) fn at_point(e: SparkleEngine, at: Point, n: u64) -> SparkleEngine
+pub(crate) fn at_point(mut e: SparkleEngine, at: Point, n: u64) -> SparkleEngine
     ensures { λ r. ⌜ r ≡ atPoint e at n ⌝ }
 {
-    let mut r = e;
-    r.current = at;
+    e.current = at;
     let s = e.steps;
-    r.steps = add_steps(s, n);
-    r
+    e.steps = add_steps(s, n);
+    e
 }
 
-// The point after a header that is not empty.
-pub(crate) fn absorb(variant: SparkleVariant, d: Direction, at: Point, input: &[u8]) -> Point
-    ensures { λ r. ⌜ r ≡ streamed (paramsOf variant) 0 (absorbBlock (paramsOf variant)) (Phase.Aad d) at (now (input .entry)) ⌝ }
+// The point after a header: as it was, where there is none.
+pub(crate) fn absorb(variant: SparkleVariant, d: Direction, at: Point, header: &[u8]) -> Point
+    ensures { λ r. ⌜ r ≡ headed (paramsOf variant) d at (now (header .entry)) ⌝ }
 {
+    if header.len() == 0 {
+        return at;
+    }
     let phase = at.phase;
     let words = at.words;
     let buffer = at.buffer;
     let held = held_count(variant, phase, at.held);
-    let total = held + input.len();
-    let count = block_count(variant, 0, total);
-    let next = blocks::absorb_blocks(variant, words, buffer, held, input, count);
+    let total = held + header.len();
+    let count = checks::block_count(variant, 0, total);
+    let next = blocks::absorb_blocks(variant, words, buffer, held, header, count);
     let gone = count * variant.nonce_bytes();
+    let rest = total - gone;
     Point {
         phase: Phase::Aad(d),
         words: next,
-        buffer: blocks::gather(buffer, held, input, gone, total - gone),
-        held: total - gone,
+        buffer: blocks::gather(buffer, held, header, gone, rest),
+        held: rest,
     }
 }
 
@@ -224,19 +217,16 @@ pub(crate) fn no_mac() -> Mac
 pub(crate) fn reset_point(phase: Phase, initial: Point) -> Point
     ensures { λ r. ⌜ r ≡ resetPoint phase initial ⌝ }
 {
-    match phase {
-        Phase::Uninitialized => no_message(),
-        Phase::Init(_) => initial,
-        Phase::Aad(_) => initial,
-        Phase::Data(d) => match d {
-            Direction::Encrypt => final_point(Direction::Encrypt),
-            Direction::Decrypt => initial,
-        },
-        Phase::Final(d) => match d {
-            Direction::Encrypt => final_point(Direction::Encrypt),
-            Direction::Decrypt => initial,
-        },
+    if checks::opening(phase) {
+        return initial;
     }
+    match phase {
+        Phase::Uninitialized => return no_message(),
+        Phase::Init(_) => return initial,
+        Phase::Aad(_) => return initial,
+        _ => {}
+    }
+    final_point(Direction::Encrypt)
 }
 
 // ---- the data begins
@@ -276,47 +266,25 @@ pub(crate) fn begin_data(e: SparkleEngine) -> SparkleEngine
     let at = e.current;
     let phase = at.phase;
     match phase {
-        Phase::Uninitialized => e,
-        Phase::Init(d) => at_point(e, without_header(d, at), 0),
-        Phase::Aad(d) => at_point(e, after_header(variant, d, at), variant.big_steps() as u64),
-        Phase::Data(_) => e,
-        Phase::Final(_) => e,
+        Phase::Init(d) => return at_point(e, without_header(d, at), 0),
+        Phase::Aad(d) => {
+            return at_point(e, after_header(variant, d, at), variant.big_steps() as u64);
+        }
+        _ => {}
     }
+    e
 }
 
 // ---- header and data
 
 // The steps that a header's blocks run.
-pub(crate) fn header_steps(variant: SparkleVariant, at: Point, input: &[u8]) -> u64
-    ensures { λ r. ⌜ r ≡ headedSteps (paramsOf variant) at (now (input .entry)) ⌝ }
+pub(crate) fn header_steps(variant: SparkleVariant, at: Point, header: &[u8]) -> u64
+    ensures { λ r. ⌜ r ≡ headedSteps (paramsOf variant) at (now (header .entry)) ⌝ }
 {
     let phase = at.phase;
     let held = held_count(variant, phase, at.held);
-    let count = block_count(variant, 0, held + input.len());
+    let count = checks::block_count(variant, 0, held + header.len());
     (count as u64) * (variant.slim_steps() as u64)
-}
-
-// The engine after a header that is not empty.
-pub(crate) fn header_in(e: SparkleEngine, input: &[u8]) -> SparkleEngine
-    requires { ⌜ 0 < length (now input) ⌝ }
-    ensures { λ r. ⌜ r ≡ aadIn (e .current .phase) e (now (input .entry)) ⌝ }
-{
-    let variant = e.variant;
-    let at = e.current;
-    let phase = at.phase;
-    match phase {
-        Phase::Uninitialized => e,
-        Phase::Init(d) => {
-            let next = absorb(variant, d, at, input);
-            at_point(e, next, header_steps(variant, at, input))
-        }
-        Phase::Aad(d) => {
-            let next = absorb(variant, d, at, input);
-            at_point(e, next, header_steps(variant, at, input))
-        }
-        Phase::Data(_) => e,
-        Phase::Final(_) => e,
-    }
 }
 
 // The point after data, of which `count` blocks go to the output.
@@ -365,7 +333,7 @@ pub(crate) fn data_in(e: SparkleEngine, input: &[u8], output: &mut [u8]) -> Spar
     let at = e.current;
     let phase = at.phase;
     let held = held_count(variant, phase, at.held);
-    let count = block_count(variant, checks::keep(variant, phase), held + input.len());
+    let count = checks::block_count(variant, checks::keep(variant, phase), held + input.len());
     let next = stream_in(variant, at, input, output, count);
     at_point(e, next, (count as u64) * (variant.slim_steps() as u64))
 }
@@ -409,7 +377,7 @@ fn remember(key: &[u8], nonce: &[u8]) -> Pair
 }
 
 // A refused start ends the message and loads no pair.
-pub(crate) fn refused(e: SparkleEngine) -> SparkleEngine
+pub(crate) fn refused(mut e: SparkleEngine) -> SparkleEngine
     ensures { λ r. ⌜ r ≡ refused e ⌝ }
 {
     let none = no_message();
@@ -418,12 +386,11 @@ pub(crate) fn refused(e: SparkleEngine) -> SparkleEngine
         current: 0,
         initial: 0,
     };
-    let mut r = e;
-    r.current = none;
-    r.initial = none;
-    r.mac = mac;
-    r.steps = steps;
-    r
+    e.current = none;
+    e.initial = none;
+    e.mac = mac;
+    e.steps = steps;
+    e
 }
 
 // The point after the start, before the initial header.
@@ -439,20 +406,9 @@ fn start_point(variant: SparkleVariant, d: Direction, key: &[u8], nonce: &[u8]) 
     }
 }
 
-// The point after a header: as it was, where there is none.
-fn headed(variant: SparkleVariant, d: Direction, at: Point, header: &[u8]) -> Point
-    ensures { λ r. ⌜ r ≡ headed (paramsOf variant) d at (now (header .entry)) ⌝ }
-{
-    if header.len() == 0 {
-        at
-    } else {
-        absorb(variant, d, at, header)
-    }
-}
-
 // A start that is taken loads its pair and absorbs its header.
 pub(crate) fn start(
-    e: SparkleEngine,
+    mut e: SparkleEngine,
     d: Direction,
     key: &[u8],
     nonce: &[u8],
@@ -463,7 +419,7 @@ pub(crate) fn start(
 {
     let variant = e.variant;
     let at = start_point(variant, d, key, nonce);
-    let point = headed(variant, d, at, header);
+    let point = absorb(variant, d, at, header);
     let pair = remember(key, nonce);
     let mac = no_mac();
     let count = std::num::wrapping_add_u64(
@@ -474,13 +430,12 @@ pub(crate) fn start(
         current: count,
         initial: count,
     };
-    let mut r = e;
-    r.current = point;
-    r.initial = point;
-    r.pair = pair;
-    r.mac = mac;
-    r.steps = steps;
-    r
+    e.current = point;
+    e.initial = point;
+    e.pair = pair;
+    e.mac = mac;
+    e.steps = steps;
+    e
 }
 
 // ---- the end
@@ -505,17 +460,16 @@ fn last_steps(variant: SparkleVariant, n: usize) -> u64
 }
 
 // The message has ended.
-fn ended(e: SparkleEngine, d: Direction, mac: Mac, n: u64) -> SparkleEngine
-    ensures { λ r. ⌜ r ≡ ended e d mac n ⌝ }
+fn ended(mut e: SparkleEngine, answer: AeadResult, d: Direction, mac: Mac, n: u64) -> Done
+    ensures { λ r. ⌜ r ≡ endedBy e answer d mac n ⌝ }
 {
     let point = final_point(d);
     let s = e.steps;
     let steps = add_steps(s, n);
-    let mut r = e;
-    r.current = point;
-    r.mac = mac;
-    r.steps = steps;
-    r
+    e.current = point;
+    e.mac = mac;
+    e.steps = steps;
+    Done { answer, engine: e }
 }
 
 // The end of a sealing: the last bytes and the tag.
@@ -540,10 +494,13 @@ pub(crate) fn seal_end(e: SparkleEngine, n: usize, output: &mut [u8]) -> Done
         readable: true,
         bytes: tag,
     };
-    Done {
-        answer: AeadResult::Ok(n),
-        engine: ended(e, Direction::Encrypt, mac, last_steps(variant, held)),
-    }
+    ended(
+        e,
+        AeadResult::Ok(n),
+        Direction::Encrypt,
+        mac,
+        last_steps(variant, held),
+    )
 }
 
 // The end of an opening: the last bytes where the received tag is right, else zeros in their place.
@@ -570,14 +527,14 @@ pub(crate) fn open_end(e: SparkleEngine, n: usize, output: &mut [u8]) -> Done
             readable: true,
             bytes: tag,
         };
-        return Done {
-            answer: AeadResult::Ok(n),
-            engine: ended(e, Direction::Decrypt, mac, steps),
-        };
+        return ended(e, AeadResult::Ok(n), Direction::Decrypt, mac, steps);
     }
     blocks::put(output, 0, [0u8; 64], body);
-    Done {
-        answer: AeadResult::Err(AeadError::AuthenticationFailed),
-        engine: ended(e, Direction::Decrypt, no_mac(), steps),
-    }
+    ended(
+        e,
+        AeadResult::Err(AeadError::AuthenticationFailed),
+        Direction::Decrypt,
+        no_mac(),
+        steps,
+    )
 }

@@ -9,20 +9,28 @@ use Rattle.tc_sparkle_aead.proofs.aead_cipher.do_final.Tie as tie
 taken : (c : tie.After-opening)
     → Taken (c .before .before .before .before .before .before .before .before .args .e) (c .before .begin-data .result)
     (c .before .before .before .before .before .before .before .before .args .output .now)
-    (c .before .before .before .n .given .0 .0) (c .opening .result)
+    (c .before .before .before .answer .given .0 .0) (c .opening .result)
 taken c =
-    let n = c .before .before .before in
+    let told = c .before .before .before in
     record {
-      passed = sym (n .before .before .end-check .ensures) ∙ n .n .given .1;
+      passed = sym (told .before .before .end-check .ensures) ∙ told .answer .given .1;
       begins = c .before .begin-data .ensures;
       direction = c .opening .ensures;
     }
 
+returns : tie.Need-returns
+returns c =
+    let checked = c .before .before in
+    let s = checked .before .before .before .args in (
+      final-refused (s .e) (s .output .now) _ _ (checked .end-check .ensures) (c .enum-told .given .1),
+      final-refused-out (s .e) (s .output .now) _ _ (checked .end-check .ensures) (c .enum-told .given .1),
+    )
+
 open-end-requires : tie.Need-open-end-requires
 open-end-requires c κs = open-fits (taken (c .before .before)) (c .before .if1 .taken)
 
-returns : tie.Need-returns
-returns c =
+returns-2 : tie.Need-returns-2
+returns-2 c =
     let end = c .before .before in
     let branch = end .before .before in
     let t = taken (branch .before) in (
@@ -32,13 +40,6 @@ returns c =
 
 seal-end-requires : tie.Need-seal-end-requires
 seal-end-requires c κs = seal-fits (taken (c .before .before)) (c .before .if1 .left)
-
-returns-2 : tie.Need-returns-2
-returns-2 c =
-    let checked = c .before .before .before in
-    let s = checked .before .before .before in
-    let no = sym (checked .end-check .ensures) ∙ c .before .x .given .1 in
-    (final-refused (s .args .e) (s .args .output .now) _ no, final-refused-out (s .args .e) (s .args .output .now) _ no)
 
 returns-3 : tie.Need-returns-3
 returns-3 c =
@@ -56,12 +57,12 @@ do-final-spec =
     (λ c κs. search needs)
     (λ c. search needs)
     (λ c. search needs)
+    returns
     (λ c κs. search needs)
     (λ c κs. search needs)
     open-end-requires
     (λ c. search needs)
-    returns
-    seal-end-requires
     returns-2
+    seal-end-requires
     (λ c. search needs)
     returns-3)

@@ -1,30 +1,29 @@
 -- `init` goes by its check; a start that passes has the variant's lengths.
 use mathlib.Core.Path.{sym, _∙_}
-use Rattle.tc_sparkle_aead.specs.Engine.{repeats}
 use Rattle.tc_sparkle_aead.proofs.StartCheckLaws.{startCheck-lengths, init-taken, init-refused}
 use borrow.Author.Needs.{needs}
 use Rattle.tc_sparkle_aead.proofs.aead_cipher.init.Statement.{statement}
 use Rattle.tc_sparkle_aead.proofs.aead_cipher.init.Tie as tie
-
-start-requires : tie.Need-start-requires
-start-requires c κs =
-    startCheck-lengths _ _ _ _ _ _ (sym (c .before .before .start-check .ensures) ∙ c .enum-told .given .1)
 
 returns : tie.Need-returns
 returns c =
     let told = c .before in
     let check = told .before .before in
     let s = check .before .before .before .before .before .before .args in
-    init-taken (s .e) (s .direction) (s .key .now) (s .nonce .now) (s .size) (s .header .now) _ _ _
-    (check .before .repeats .ensures) (check .start-check .ensures) (told .enum-told .given .1) (c .start .ensures)
+    init-refused (s .e) (s .direction) (s .key .now) (s .nonce .now) (s .size) (s .header .now) _ _ _
+    (check .before .repeats .ensures) (check .start-check .ensures) _ (told .enum-told2 .given .1) (c .refused .ensures)
+
+start-requires : tie.Need-start-requires
+start-requires c κs =
+    startCheck-lengths _ _ _ _ _ _ (sym (c .before .before .start-check .ensures) ∙ c .enum-told .given .1)
 
 returns-2 : tie.Need-returns-2
 returns-2 c =
-    let told = c .before .before in
+    let told = c .before in
     let check = told .before .before in
     let s = check .before .before .before .before .before .before .args in
-    init-refused (s .e) (s .direction) (s .key .now) (s .nonce .now) (s .size) (s .header .now) _ _ _
-    (check .before .repeats .ensures) (check .start-check .ensures) _ (told .x .given .1) (c .refused .ensures)
+    init-taken (s .e) (s .direction) (s .key .now) (s .nonce .now) (s .size) (s .header .now) _ _ _
+    (check .before .repeats .ensures) (check .start-check .ensures) (told .enum-told .given .1) (c .start .ensures)
 
 pub init-spec : {M : Type 1} → statement M
 init-spec =
@@ -33,8 +32,8 @@ init-spec =
     (λ c κs. search needs)
     (λ c κs. search needs)
     (λ c. search needs)
-    start-requires
     (λ c. search needs)
     (λ c κs. search needs)
     returns
+    start-requires
     returns-2)

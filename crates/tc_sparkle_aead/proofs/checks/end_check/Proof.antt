@@ -1,28 +1,51 @@
--- `end_check` meets its contract: each arm hands on the answer that its check gave.
-use mathlib.Core.Path.{refl, sym, _∙_}
-use Rattle.tc_sparkle_aead.specs.Checks.{endCheck}
+-- `end_check` meets its contract: it hands on the answer that its check gave, and on an opening looks for a tag.
+use native.Mathlib.Omega.{arith}
+use mathlib.Core.Path.{sym, _∙_}
+use Rattle.tc_sparkle_aead.proofs.CheckLaws.{endCheck-refused, endCheck-unsized, endCheck-sealing, endCheck-short, endCheck-whole}
 use borrow.Author.Needs.{needs}
 use Rattle.tc_sparkle_aead.proofs.checks.end_check.Statement.{statement}
 use Rattle.tc_sparkle_aead.proofs.checks.end_check.Tie as tie
 
 returns : tie.Need-returns
-unfolding endCheck
-returns c = rw (sym (c .before .before .before .phase-check .ensures) ∙ c .before .e .given .1) refl
+returns c = endCheck-refused _ _ _ _ _ (c .before .before .phase-check .ensures) _ (c .enum-told2 .given .1)
 
 returns-2 : tie.Need-returns-2
-unfolding endCheck
 returns-2 c =
-    let s = c .before .before .before in
-    let passed = sym (s .before .before .before .before .phase-check .ensures) ∙ s .before .before .enum-told .given .1 in
-    rw (passed, ← s .before .total-len .ensures, sym (s .with-room .ensures) ∙ c .before .e2 .given .1) refl
+    let sized = c .before .before in
+    let told = sized .before .before in
+    endCheck-unsized _ _ _ _ _ (told .before .before .phase-check .ensures) _ (told .enum-told .given .1) _ _
+    (sized .before .total-len .ensures) (sized .with-room .ensures) _ (c .enum-told4 .given .1)
 
 returns-3 : tie.Need-returns-3
-unfolding endCheck
 returns-3 c =
-    let s = c .before .before .before .before in
-    let passed = sym (s .before .before .before .before .phase-check .ensures) ∙ s .before .before .enum-told .given .1 in
-    rw (passed, ← s .before .total-len .ensures, sym (s .with-room .ensures) ∙ c .before .before .n .given .1)
-    (c .whole .ensures)
+    let branch = c .before .before .before in
+    let fits = branch .before .before in
+    let sized = fits .before .before in
+    let told = sized .before .before in
+    endCheck-short _ _ _ _ _ (told .before .before .phase-check .ensures) _ (told .enum-told .given .1) _ _
+    (sized .before .total-len .ensures) (sized .with-room .ensures) _ (fits .enum-told3 .given .1)
+    (sym (branch .before .opening .ensures) ∙ branch .if1 .taken) _ _ (c .before .before .tag-bytes .ensures)
+    (c .before .held-in .ensures) (c .if2 .taken)
+
+returns-4 : tie.Need-returns-4
+returns-4 c =
+    let branch = c .before .before .before in
+    let fits = branch .before .before in
+    let sized = fits .before .before in
+    let told = sized .before .before in
+    endCheck-whole _ _ _ _ _ (told .before .before .phase-check .ensures) _ (told .enum-told .given .1) _ _
+    (sized .before .total-len .ensures) (sized .with-room .ensures) _ (fits .enum-told3 .given .1)
+    (sym (branch .before .opening .ensures) ∙ branch .if1 .taken) _ _ (c .before .before .tag-bytes .ensures)
+    (c .before .held-in .ensures) (c .if2 .left)
+
+returns-5 : tie.Need-returns-5
+returns-5 c =
+    let fits = c .before .before in
+    let sized = fits .before .before in
+    let told = sized .before .before in
+    endCheck-sealing _ _ _ _ _ (told .before .before .phase-check .ensures) _ (told .enum-told .given .1) _ _
+    (sized .before .total-len .ensures) (sized .with-room .ensures) _ (fits .enum-told3 .given .1)
+    (sym (c .before .opening .ensures) ∙ c .if1 .left)
 
 pub end-check-spec : {M : Type 1} → statement M
 end-check-spec =
@@ -31,11 +54,15 @@ end-check-spec =
     (λ c κs. search needs)
     (λ c. search needs)
     (λ c. search needs)
-    (λ c κs. search needs)
-    (λ c κs. search needs)
-    (λ c. search needs)
-    (λ c. search needs)
-    (λ c κs. search needs)
     returns
+    (λ c κs. search needs)
+    (λ c κs. search needs)
+    (λ c. search needs)
+    (λ c. search needs)
     returns-2
-    returns-3)
+    (λ c κs. search needs)
+    (λ c κs. search needs)
+    (λ c κs. search needs)
+    returns-3
+    returns-4
+    returns-5)

@@ -1,13 +1,16 @@
 -- `start_check` meets its contract: each answer is a law of `startCheck`.
 use mathlib.Core.Path.{refl, sym, _∙_}
 use native.Mathlib.Omega.{arith}
+use Rattle.tc_sparkle_aead.specs.Variant.{paramsOf}
 use Rattle.tc_sparkle_aead.proofs.CheckLaws.{startCheck-key, startCheck-nonce, startCheck-size, startCheck-opening, startCheck-sealing}
 use borrow.Author.Needs.{needs}
 use Rattle.tc_sparkle_aead.proofs.checks.start_check.Statement.{statement}
 use Rattle.tc_sparkle_aead.proofs.checks.start_check.Tie as tie
 
 returns : tie.Need-returns
-returns c = sym (startCheck-key _ _ _ _ _ _ (omega arith))
+returns c =
+    let s = c .before .before .args in
+    rw (startCheck-key (paramsOf (s .variant)) (s .direction) (s .key) (s .nonce) (s .size) (s .repeats) (omega arith)) refl
 
 returns-2 : tie.Need-returns-2
 returns-2 c = sym (startCheck-nonce _ _ _ _ _ _ (omega arith) (omega arith))

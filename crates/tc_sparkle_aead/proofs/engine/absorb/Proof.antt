@@ -1,9 +1,10 @@
 -- `absorb` takes the blocks that are ready and keeps the rest.
-use mathlib.Core.Path.{_≡_}
+use mathlib.Core.Path.{_≡_, sym, _∙_}
 use Prim.Native.Nat.{_+_, _*_, _≤_}
 use native.Mathlib.Omega.{arith}
 use lib.ListN.{length}
 use borrow.Author.Needs.{needs}
+use Rattle.tc_sparkle_aead.proofs.HeaderLaws.{headed-none, headed-some}
 use Rattle.tc_sparkle_aead.proofs.CallLaws.{heldCount-bound, streamed-rate, gone-bound, rest-bound}
 use Rattle.schwaemm.specs.Schwaemm.{absorbBlock}
 use Rattle.tc_sparkle_aead.specs.declared.phase.Phase.the-variants.{Aad}
@@ -17,7 +18,7 @@ buffer-length c = search needs
 
 held-fits : (c : tie.After-held-count) → c .held-count .result ≤ 64
 held-fits c =
-    let s = c .before .before .before .before .args in
+    let s = c .before .before .before .before .before .args in
     omega (
       arith,
       c .held-count .ensures,
@@ -26,10 +27,10 @@ held-fits c =
 
 -- the bytes that go are at most those that there are
 gone : (c : tie.After-block-count)
-    → c .block-count .result * paramsOf (c .before .before .before .before .before .args .variant) .rate
-    ≤ c .before .held-count .result + length (c .before .before .before .before .before .args .input .now)
+    → c .block-count .result * paramsOf (c .before .before .before .before .before .before .args .variant) .rate
+    ≤ c .before .held-count .result + length (c .before .before .before .before .before .before .args .header .now)
 gone c =
-    gone-bound (paramsOf (c .before .before .before .before .before .args .variant) .rate) 0 _ _
+    gone-bound (paramsOf (c .before .before .before .before .before .before .args .variant) .rate) 0 _ _
     (c .block-count .ensures)
 
 add-total : tie.Need-add-total
@@ -41,13 +42,13 @@ absorb-blocks-requires c κs = (held-fits (c .before), gone c)
 mul-gone : tie.Need-mul-gone
 mul-gone c = rw (c .nonce-bytes .ensures) (omega (arith, gone (c .before .before), held-fits (c .before .before .before)))
 
-sub-gather : tie.Need-sub-gather
-sub-gather c = rw (c .nonce-bytes .ensures) (gone (c .before .before))
+sub-rest : tie.Need-sub-rest
+sub-rest c = rw (c .nonce-bytes .ensures) (gone (c .before .before))
 
 gather-requires : tie.Need-gather-requires
 gather-requires c κs =
     let count = c .before .before in
-    let v = count .before .before .before .before .before .args .variant in
+    let v = count .before .before .before .before .before .before .args .variant in
     rw (c .nonce-bytes .ensures) (
       held-fits (count .before),
       omega (
@@ -58,30 +59,31 @@ gather-requires c κs =
       omega (arith, gone count),
     )
 
-sub-t16 : tie.Need-sub-t16
-sub-t16 c = rw (c .before .nonce-bytes .ensures) (gone (c .before .before .before))
-
 returns : tie.Need-returns
-returns c =
+returns c = sym (headed-none _ _ _ _ (c .if1 .taken))
+
+returns-2 : tie.Need-returns-2
+returns-2 c =
     let count = c .before .before .before in
     let kept = count .before in
-    let s = kept .before .before .before .before in
+    let s = kept .before .before .before .before .before in
     let v = s .args .variant in
-    streamed-rate (paramsOf v) (small v) 0 (absorbBlock (paramsOf v)) (Aad (s .args .d)) (s .args .at) (s .args .input .now)
+    streamed-rate (paramsOf v) (small v) 0 (absorbBlock (paramsOf v)) (Aad (s .args .d)) (s .args .at) (s .args .header .now)
     (buffer-length s) _ (kept .held-count .ensures) _ (count .block-count .ensures) _ (c .before .nonce-bytes .ensures) _ _
     (c .before .before .absorb-blocks .ensures) (c .gather .ensures)
+    ∙ sym (headed-some (paramsOf v) (s .args .d) (s .args .at) (s .args .header .now) (omega arith))
 
 pub absorb-spec : {M : Type 1} → statement M
 absorb-spec =
     tie.close
     (tie.spec
+    returns
     (λ c κs. search needs)
     add-total
     (λ c κs. search needs)
     absorb-blocks-requires
     (λ c κs. search needs)
     mul-gone
-    sub-gather
+    sub-rest
     gather-requires
-    sub-t16
-    returns)
+    returns-2)

@@ -1,10 +1,9 @@
 -- `data_in` is the engine after data in phase Data, and writes what its blocks become.
-use mathlib.Core.Path.{_≡_, ap, ap₂, _∙_}
+use mathlib.Core.Path.{_≡_, refl, ap₂, _∙_}
 use Prim.Native.Nat.{ℕ, _+_, _*_}
 use native.Mathlib.Omega.{arith}
 use lib.ListN.{length}
 use borrow.Author.Needs.{needs}
-use Rattle.schwaemm.specs.Blocks.{ready}
 use Rattle.tc_sparkle_aead.proofs.VariantLaws.{sizes, small}
 use Rattle.tc_sparkle_aead.proofs.DataLaws.{is-count}
 use Rattle.tc_sparkle_aead.proofs.HeaderLaws.{steps-fit}
@@ -25,9 +24,8 @@ blocks-is c =
     let s = c .before .before .before .before .before .before in
     let e = s .args .e in
     is-count (paramsOf (e .variant)) (small (e .variant)) _ (e .current) (s .args .input .now) (buffer-length s)
-    (c .before .before .held-count .result) (c .before .before .held-count .ensures) (c .block-count .result)
-    (c .block-count .ensures
-    ∙ ap (λ (k : ℕ). ready (paramsOf (e .variant) .rate) k (c .before .before .held-count .result + length (s .args .input .now))) (c .before .keep .ensures))
+    (c .before .before .held-count .result) (c .before .before .held-count .ensures) (c .block-count .result) _
+    (rw (c .before .keep .ensures) at (c .block-count .ensures)) refl
 
 add-block-count : tie.Need-add-block-count
 add-block-count c = omega (arith, c .before .held-count .ensures, heldCount-bound (paramsOf (c .before .before .before .before .before .args .e .variant)) (small (c .before .before .before .before .before .args .e .variant)) (c .before .before .before .before .before .args .e .current .phase) (c .before .before .before .before .before .args .e .current .held))

@@ -17,7 +17,7 @@ buffer-length : (c : tie.Start) → length (c .args .at .buffer) ≡ 64
 buffer-length c = search needs
 
 -- the bytes that there are
-total-fits : (c : tie.After-held-count) → c .held-count .result + length (c .before .before .args .input .now) < 2 ^ 63 + 64
+total-fits : (c : tie.After-held-count) → c .held-count .result + length (c .before .before .args .header .now) < 2 ^ 63 + 64
 total-fits c =
     let s = c .before .before .args in
     omega (
@@ -47,7 +47,7 @@ returns c =
     let s = held .before .before in
     let p = paramsOf (s .args .variant) in
     ap₂ _*_
-    (blocks-is p (small (s .args .variant)) 0 (absorbBlock p) (s .args .at .phase) (s .args .at) (s .args .input .now)
+    (blocks-is p (small (s .args .variant)) 0 (absorbBlock p) (s .args .at .phase) (s .args .at) (s .args .header .now)
     (buffer-length s) _ (held .held-count .ensures) _ (count .block-count .ensures))
     (c .slim-steps .ensures)
 

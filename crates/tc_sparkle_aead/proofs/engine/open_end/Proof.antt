@@ -1,5 +1,5 @@
 -- `open_end` has the last bytes, the tag and its verdict from its callees, and then writes and ends by the verdict.
-use mathlib.Core.Path.{_≡_}
+use mathlib.Core.Path.{_≡_, refl}
 use Prim.Native.Nat.{_+_, _-_, _≤_}
 use native.Mathlib.Omega.{arith}
 use borrow.Author.Needs.{needs}
@@ -72,7 +72,7 @@ returns-2 c =
     let branch = put .before .before in
     let o = computed (branch .before) in (
       unopened o _ _ _ (branch .if1 .left) (c .before .no-mac .ensures) (c .ended2 .ensures),
-      unopened-out o _ _ (branch .if1 .left) (put .put2 .ensures),
+      unopened-out o _ _ _ (branch .if1 .left) (put .put2 .ensures) refl,
     )
 
 pub open-end-spec : {M : Type 1} → statement M

@@ -21,7 +21,7 @@ returns c =
     let at = point .before in
     let s = at .before .before .before .before .args in
     started-is (s .e) (s .d) (s .key .now) (s .nonce .now) (s .header .now) _ _ _ _ _ _ _ (at .start-point .ensures)
-    (point .headed .ensures) (pair .remember .ensures) (mac .no-mac .ensures) (big .big-steps .ensures)
+    (point .absorb .ensures) (pair .remember .ensures) (mac .no-mac .ensures) (big .big-steps .ensures)
     (steps .header-steps .ensures) (c .wrapping-add-u64 .ensures)
 
 pub start-spec : {M : Type 1} → statement M

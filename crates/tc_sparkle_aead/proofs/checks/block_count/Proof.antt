@@ -5,8 +5,8 @@ use native.Mathlib.Omega.{arith}
 use borrow.Author.Needs.{needs}
 use Rattle.tc_sparkle_aead.proofs.VariantLaws.{sizes}
 use Rattle.schwaemm.specs.Blocks.{ready}
-use Rattle.tc_sparkle_aead.proofs.engine.block_count.Statement.{statement}
-use Rattle.tc_sparkle_aead.proofs.engine.block_count.Tie as tie
+use Rattle.tc_sparkle_aead.proofs.checks.block_count.Statement.{statement}
+use Rattle.tc_sparkle_aead.proofs.checks.block_count.Tie as tie
 
 div-result : tie.Need-div-result
 div-result c = omega (arith, c .nonce-bytes .ensures, sizes (c .before .before .before .args .variant))
