@@ -61,7 +61,28 @@ impl Left {
 #[cfg(test)]
 mod tests {
     use super::run;
+    use crate::contenders::{Contender, Job, Operation, VARIANTS};
     use std::hint::black_box;
+
+    /// The library leaves neither key nor message on the stack.
+    #[test]
+    fn the_library_wipes_the_stack() {
+        for variant in 0..VARIANTS.len() {
+            for operation in Operation::ALL {
+                let mut job = Job::new(variant, operation, 32, 100);
+                job.run(Contender::Rust);
+                let secrets = [
+                    job.key.clone(),
+                    job.input[84..].to_vec(),
+                    job.output[84..].to_vec(),
+                ];
+                let left = run(|| job.run(Contender::RattleLibrary));
+                for secret in secrets {
+                    assert_eq!(left.copies(&secret[..16]), 0);
+                }
+            }
+        }
+    }
 
     #[test]
     fn depth_is_seen() {

@@ -297,3 +297,40 @@ pub fn plot(rows: &[Row]) -> Result<String, String> {
     svg.push_str("</svg>\n");
     Ok(svg)
 }
+
+#[cfg(test)]
+mod tests {
+    use super::{Row, plot};
+    use crate::contenders::{Contender, Operation};
+
+    fn row(length: usize, contender: Contender) -> Row {
+        Row {
+            variant: 2,
+            operation: Operation::Open,
+            header: 0,
+            length,
+            contender,
+            median: 10.5 * length as f64,
+            fastest: 10.0 * length as f64,
+        }
+    }
+
+    #[test]
+    fn rows_are_read_as_they_are_written() {
+        for contender in Contender::ALL {
+            let row = row(64, contender);
+            assert_eq!(Row::parse(&row.csv()), Some(row));
+        }
+        assert_eq!(Row::parse("5,open,0,64,Rust,1.0,1.0"), None);
+        assert_eq!(Row::parse("1,open,0,64,Rust,1.0"), None);
+    }
+
+    #[test]
+    fn a_plot_needs_two_lengths() {
+        let one = [row(64, Contender::Rust)];
+        assert!(plot(&one).is_err());
+        let two = [row(64, Contender::Rust), row(128, Contender::Rust)];
+        let svg = plot(&two).unwrap();
+        assert!(svg.starts_with("<svg ") && svg.ends_with("</svg>\n"));
+    }
+}
