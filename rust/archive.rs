@@ -1,6 +1,7 @@
 // Names an archive of the port to the linker. The build scripts of `host` and
 // `bench` share it: `rt staticlib NAME` writes the archive to the repository's
-// target/staticlib, and an environment variable may name another folder.
+// target/staticlib, and an environment variable may name another folder by its
+// absolute path.
 
 use std::env;
 use std::path::PathBuf;

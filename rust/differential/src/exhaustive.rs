@@ -158,6 +158,7 @@ impl Bytes {
         }
     }
 
+    /// A header, or data, of n bytes.
     fn header(&self, n: usize) -> Vec<u8> {
         self.bytes[..n].to_vec()
     }
@@ -176,85 +177,65 @@ impl Bytes {
             .clone()
     }
 
-    fn call(&mut self, r: &mut Recorder, letter: Letter) {
-        let rate = self.variant.nonce_bytes();
-        let (mut first, opening) = (self.first.clone(), true);
+    /// What a start's letter starts with.
+    fn start(&self, letter: Letter) -> Option<Start> {
+        let mut start = self.first.clone();
         match letter {
-            Letter::Seal => {
-                r.init(&first);
-            }
-            Letter::SealOther => {
-                r.init(&self.second);
-            }
-            Letter::Open => {
-                r.init(&Start { opening, ..first });
-            }
+            Letter::Seal => {}
+            Letter::SealOther => start = self.second.clone(),
+            Letter::Open => start.opening = true,
             Letter::OpenHeader => {
-                let header = self.header(rate);
-                r.init(&Start {
-                    opening,
-                    header,
-                    ..first
-                });
+                start.opening = true;
+                start.header = self.header(self.variant.nonce_bytes());
             }
-            Letter::WrongKey => {
-                first.key.pop();
-                r.init(&first);
-            }
+            Letter::WrongKey => start.key.truncate(start.key.len() - 1),
             Letter::WrongNonce => {
-                first.nonce.push(1);
-                r.init(&Start { opening, ..first });
+                start.opening = true;
+                start.nonce.push(1);
             }
-            Letter::WrongSize => {
-                first.size -= 1;
-                r.init(&first);
-            }
-            Letter::NoHeader => {
-                r.aad(&[]);
-            }
-            Letter::Header => {
-                r.aad(&self.header(1));
-            }
-            Letter::LongHeader => {
-                r.aad(&self.header(rate + 1));
-            }
-            Letter::NoData => {
-                r.data(&[], 1);
-            }
-            Letter::Data => {
-                let room = r.needed(1);
-                r.data(&self.header(1), room + 1);
-            }
-            Letter::Packet => {
-                let packet = self.packet(r);
-                r.data_exact(&packet);
-            }
+            Letter::WrongSize => start.size -= 1,
+            _ => return None,
+        }
+        Some(start)
+    }
+
+    /// What a query's letter asks.
+    fn query(&self, letter: Letter) -> Option<Call> {
+        let (rate, tag) = (self.variant.nonce_bytes(), self.variant.tag_bytes());
+        match letter {
+            Letter::Update => Some(Call::UpdateOutputLen(rate)),
+            Letter::UpdateMost => Some(Call::UpdateOutputLen(usize::MAX)),
+            Letter::Output => Some(Call::OutputLen(rate)),
+            Letter::OutputMost => Some(Call::OutputLen(usize::MAX - tag)),
+            _ => None,
+        }
+    }
+
+    /// Makes a letter's call.
+    fn call(&mut self, r: &mut Recorder, letter: Letter) {
+        if let Some(start) = self.start(letter) {
+            r.init(&start);
+            return;
+        }
+        if let Some(query) = self.query(letter) {
+            r.call(query);
+            return;
+        }
+        match letter {
+            Letter::NoHeader => drop(r.aad(&[])),
+            Letter::Header => drop(r.aad(&self.header(1))),
+            Letter::LongHeader => drop(r.aad(&self.header(self.variant.nonce_bytes() + 1))),
+            Letter::NoData => drop(r.data(&[], 1)),
+            Letter::Data => drop(r.data(&self.header(1), r.needed(1) + 1)),
+            Letter::Packet => drop(r.data_exact(&self.packet(r))),
             Letter::PacketShort => {
                 let packet = self.packet(r);
-                let room = r.needed(packet.len()).saturating_sub(1);
-                r.data(&packet, room);
+                r.data(&packet, r.needed(packet.len()).saturating_sub(1));
             }
-            Letter::End => {
-                r.end_exact();
-            }
-            Letter::EndShort => {
-                let room = r.needed_at_end().saturating_sub(1);
-                r.end(room);
-            }
+            Letter::End => drop(r.end_exact()),
+            Letter::EndShort => drop(r.end(r.needed_at_end().saturating_sub(1))),
             Letter::Reset => r.reset(),
-            Letter::Mac => r.mac(),
-            Letter::Update => {
-                r.call(Call::UpdateOutputLen(rate));
-            }
-            Letter::UpdateMost => {
-                r.call(Call::UpdateOutputLen(usize::MAX));
-            }
-            Letter::Output => {
-                r.call(Call::OutputLen(rate));
-            }
-            Letter::OutputMost => {
-                r.call(Call::OutputLen(usize::MAX - self.variant.tag_bytes()));
-            }
+            _ => r.mac(),
         }
     }
 }

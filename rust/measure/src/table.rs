@@ -235,25 +235,16 @@ fn lines(svg: &mut String, panel: &Panel, rows: &[&Row]) {
     }
 }
 
-/// A plot of time a byte over the message's length, a panel for each variant
-/// and operation, for messages without a header.
-pub fn plot(rows: &[Row]) -> Result<String, String> {
-    let rows: Vec<&Row> = rows.iter().filter(|row| row.header == 0).collect();
-    let mut lengths: Vec<usize> = rows.iter().map(|row| row.length).collect();
-    lengths.sort_unstable();
-    lengths.dedup();
-    let times = rows.iter().map(|row| row.median / row.length as f64);
-    let (low, high) = times.fold((f64::INFINITY, 0.0_f64), |(l, h), t| (l.min(t), h.max(t)));
-    if lengths.len() < 2 || !low.is_normal() {
-        return Err("the plot needs times of messages of two lengths".to_string());
-    }
-    let range = (low.log2().floor().exp2(), high.log2().ceil().exp2());
-    let ends = (lengths[0] as f64, lengths[lengths.len() - 1] as f64);
+/// The plot's first lines: its size, its title and which line is whose.
+fn head(svg: &mut String) {
     let width = LEFT + 4.0 * (PANEL.0 + GAP.0);
     let height = TOP + 2.0 * (PANEL.1 + GAP.1);
-    let mut svg = format!(
-        "<svg xmlns=\"http://www.w3.org/2000/svg\" viewBox=\"0 0 {width} {height}\" font-family=\"sans-serif\" font-size=\"12\">\n<rect width=\"{width}\" height=\"{height}\" fill=\"white\"/>\n"
-    );
+    writeln!(svg, "<svg xmlns=\"http://www.w3.org/2000/svg\" viewBox=\"0 0 {width} {height}\" font-family=\"sans-serif\" font-size=\"12\">").unwrap();
+    writeln!(
+        svg,
+        "<rect width=\"{width}\" height=\"{height}\" fill=\"white\"/>"
+    )
+    .unwrap();
     writeln!(svg, "<text x=\"{LEFT}\" y=\"20\">Nanoseconds a byte over the message's length, no header; median. Both axes are logarithmic.</text>").unwrap();
     for (i, contender) in PLOTTED.into_iter().enumerate() {
         let x = LEFT + 150.0 * i as f64;
@@ -272,19 +263,32 @@ pub fn plot(rows: &[Row]) -> Result<String, String> {
         )
         .unwrap();
     }
+}
+
+/// A plot of time a byte over the message's length, a panel for each variant
+/// and operation, for messages without a header.
+pub fn plot(rows: &[Row]) -> Result<String, String> {
+    let rows: Vec<&Row> = rows.iter().filter(|row| row.header == 0).collect();
+    let mut lengths: Vec<usize> = rows.iter().map(|row| row.length).collect();
+    lengths.sort_unstable();
+    lengths.dedup();
+    let times = rows.iter().map(|row| row.median / row.length as f64);
+    let (low, high) = times.fold((f64::INFINITY, 0.0_f64), |(l, h), t| (l.min(t), h.max(t)));
+    if lengths.len() < 2 || !low.is_normal() {
+        return Err("the plot needs times of messages of two lengths".to_string());
+    }
+    let mut svg = String::new();
+    head(&mut svg);
     for (row, operation) in Operation::ALL.into_iter().enumerate() {
         for (column, variant) in VARIANTS.iter().enumerate() {
             let panel = Panel {
                 x: LEFT + column as f64 * (PANEL.0 + GAP.0),
                 y: TOP + row as f64 * (PANEL.1 + GAP.1),
-                lengths: ends,
-                times: range,
+                lengths: (lengths[0] as f64, lengths[lengths.len() - 1] as f64),
+                times: (low.log2().floor().exp2(), high.log2().ceil().exp2()),
             };
-            let here: Vec<&Row> = rows
-                .iter()
-                .filter(|r| r.variant == column && r.operation == operation)
-                .copied()
-                .collect();
+            let here = |r: &&&Row| r.variant == column && r.operation == operation;
+            let here: Vec<&Row> = rows.iter().filter(here).copied().collect();
             frame(
                 &mut svg,
                 &panel,

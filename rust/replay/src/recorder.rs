@@ -260,16 +260,22 @@ impl Recorder {
                 self.ended = (self.begun() + self.whole(self.data - tag)) as u64;
                 self.phase = Phase::Final;
             }
-            (Call::Reset, _) => match (self.phase, self.opening) {
-                (Phase::Uninitialized, _) => {}
-                (Phase::Data | Phase::Final, false) => {
-                    self.begin();
-                    self.ended = self.steps() as u64;
-                    self.phase = Phase::Final;
-                }
-                _ => self.begin(),
-            },
+            (Call::Reset, _) => self.follow_reset(),
             _ => {}
+        }
+    }
+
+    /// A reset: sealing in Data or Final ends in Final, with the steps after
+    /// init; the others go back to the point after init.
+    fn follow_reset(&mut self) {
+        match (self.phase, self.opening) {
+            (Phase::Uninitialized, _) => {}
+            (Phase::Data | Phase::Final, false) => {
+                self.begin();
+                self.ended = self.steps() as u64;
+                self.phase = Phase::Final;
+            }
+            _ => self.begin(),
         }
     }
 

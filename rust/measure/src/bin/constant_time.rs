@@ -7,6 +7,7 @@
 //! `some` where an answer depends on contents by design), and how many came.
 
 use std::hint::black_box;
+use std::ops::Range;
 use std::process::ExitCode;
 
 use host::{Direction, List, Packet};
@@ -99,7 +100,7 @@ fn packet(variant: usize, operation: Operation, length: usize, damaged: bool) ->
 }
 
 /// Which start comes after a sealed message.
-#[derive(Clone, Copy)]
+#[derive(Clone, Copy, PartialEq)]
 enum Second {
     None,
     SamePair,
@@ -107,55 +108,85 @@ enum Second {
     OtherNonce,
 }
 
-/// A list: a message sealed in pieces, a reset, queries, the tag, and perhaps
-/// another start for sealing.
+impl Second {
+    const ALL: [Self; 4] = [Self::None, Self::SamePair, Self::OtherKey, Self::OtherNonce];
+
+    fn name(self) -> &'static str {
+        match self {
+            Self::None => "no second start",
+            Self::SamePair => "the same pair again",
+            Self::OtherKey => "another key",
+            Self::OtherNonce => "another nonce",
+        }
+    }
+}
+
+/// A list, and where in it contents stand.
+struct Secrets {
+    list: List,
+    contents: Vec<Range<usize>>,
+}
+
+impl Secrets {
+    /// Makes a call whose runs, the last `n` bytes of it, are contents.
+    fn call(&mut self, n: usize, call: impl FnOnce(&mut List)) {
+        call(&mut self.list);
+        let end = self.list.bytes().len();
+        self.contents.push(end - n..end);
+    }
+
+    /// A message sealed in pieces, a query, the tag, a reset, and perhaps
+    /// another start for sealing.
+    fn new(variant: usize, second: Second) -> Self {
+        let sizes = VARIANTS[variant];
+        let (mut key, mut nonce) = (vec![1; sizes.key_bytes()], vec![2; sizes.nonce_bytes()]);
+        let (size, pair) = (sizes.tag_bytes() as u64, key.len() + nonce.len());
+        let mut new = Self {
+            list: List::new(variant as u8 + 1),
+            contents: Vec::new(),
+        };
+        new.call(pair + 20, |list| {
+            list.init(Direction::Sealing, size, &key, &nonce, &[3; 20]);
+        });
+        new.call(33, |list| list.process_aad_bytes(&[4; 33]));
+        for n in [1, 31, 32, 33, 70] {
+            let (input, output) = (vec![5; n], vec![6; n + 32]);
+            new.call(n + n + 32, |list| list.process_bytes(&input, &output));
+        }
+        new.list.update_output_len(7);
+        new.call(64, |list| list.do_final(&[7; 64]));
+        new.list.mac();
+        new.list.reset();
+        match second {
+            Second::None => return new,
+            Second::SamePair => {}
+            Second::OtherKey => key[0] ^= 1,
+            Second::OtherNonce => nonce[0] ^= 1,
+        }
+        new.call(pair, |list| {
+            list.init(Direction::Sealing, size, &key, &nonce, &[]);
+        });
+        new
+    }
+}
+
+/// A list of calls.
 fn list(variant: usize, second: Second) -> bool {
-    let sizes = VARIANTS[variant];
-    let (key, nonce) = (vec![1; sizes.key_bytes()], vec![2; sizes.nonce_bytes()]);
-    let size = sizes.tag_bytes() as u64;
-    let mut list = List::new(variant as u8 + 1);
-    let mut secrets = Vec::new();
-    let mut note = |list: &List, from_end: usize| {
-        secrets.push(list.bytes().len() - from_end..list.bytes().len());
+    let secrets = Secrets::new(variant, second);
+    let bytes = secrets.list.bytes();
+    let mut answers = vec![0; secrets.list.answers_len()];
+    for contents in &secrets.contents {
+        make_undefined(&bytes[contents.clone()]);
+    }
+    let expected = match second {
+        Second::None => Expected::None,
+        _ => Expected::Some,
     };
-    list.init(Direction::Sealing, size, &key, &nonce, &[3; 20]);
-    note(&list, key.len() + nonce.len() + 20);
-    list.process_aad_bytes(&[4; 33]);
-    note(&list, 33);
-    for n in [1, 31, 32, 33, 70] {
-        list.process_bytes(&vec![5; n], &vec![6; n + 32]);
-        note(&list, n + n + 32);
-    }
-    list.update_output_len(7);
-    list.do_final(&[7; 64]);
-    note(&list, 64);
-    list.mac();
-    list.reset();
-    let (mut other_key, mut other_nonce) = (key.clone(), nonce.clone());
-    match second {
-        Second::None | Second::SamePair => {}
-        Second::OtherKey => other_key[0] ^= 1,
-        Second::OtherNonce => other_nonce[0] ^= 1,
-    }
-    let (expected, name) = match second {
-        Second::None => (Expected::None, "no second start"),
-        Second::SamePair => (Expected::Some, "the same pair again"),
-        Second::OtherKey => (Expected::Some, "another key"),
-        Second::OtherNonce => (Expected::Some, "another nonce"),
-    };
-    if !matches!(second, Second::None) {
-        list.init(Direction::Sealing, size, &other_key, &other_nonce, &[]);
-        note(&list, key.len() + nonce.len());
-    }
-    let mut answers = vec![0; list.answers_len()];
-    for secret in &secrets {
-        make_undefined(&list.bytes()[secret.clone()]);
-    }
-    let name = format!("variant {}, a list, {name}", variant + 1);
+    let name = format!("variant {}, a list, {}", variant + 1, second.name());
     let fine = case(&name, expected, || {
-        black_box(host::run(list.bytes(), &mut answers));
+        black_box(host::run(bytes, &mut answers));
     });
-    make_defined(list.bytes());
+    make_defined(bytes);
     fine
 }
 
@@ -171,12 +202,7 @@ fn main() -> ExitCode {
             fine &= packet(variant, Operation::Open, length, false);
             fine &= packet(variant, Operation::Open, length, true);
         }
-        for second in [
-            Second::None,
-            Second::SamePair,
-            Second::OtherKey,
-            Second::OtherNonce,
-        ] {
+        for second in Second::ALL {
             fine &= list(variant, second);
         }
     }
