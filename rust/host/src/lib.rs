@@ -105,48 +105,38 @@ pub fn run(list: &[u8], answers: &mut [u8]) -> Ran {
     Ran { code, place }
 }
 
+/// Calls one of the two functions of a whole packet, which take the same.
+macro_rules! at_once {
+    ($function:ident, $packet:expr, $output:expr) => {{
+        let (p, output): (Packet, &mut [u8]) = ($packet, $output);
+        let mut first = 0;
+        // SAFETY: as in `run`.
+        let code = unsafe {
+            $function(
+                p.variant,
+                p.key.as_ptr(),
+                p.key.len(),
+                p.nonce.as_ptr(),
+                p.nonce.len(),
+                p.header.as_ptr(),
+                p.header.len(),
+                p.message.as_ptr(),
+                p.message.len(),
+                output.as_mut_ptr(),
+                output.len(),
+                &mut first,
+            )
+        };
+        Done { code, first }
+    }};
+}
+
 /// Seals a message: init, one data call and the end on a new engine.
 pub fn seal(p: Packet, output: &mut [u8]) -> Done {
-    let mut first = 0;
-    // SAFETY: as in `run`.
-    let code = unsafe {
-        schwaemm_seal(
-            p.variant,
-            p.key.as_ptr(),
-            p.key.len(),
-            p.nonce.as_ptr(),
-            p.nonce.len(),
-            p.header.as_ptr(),
-            p.header.len(),
-            p.message.as_ptr(),
-            p.message.len(),
-            output.as_mut_ptr(),
-            output.len(),
-            &mut first,
-        )
-    };
-    Done { code, first }
+    at_once!(schwaemm_seal, p, output)
 }
 
 /// Opens a packet: init, one data call and the end on a new engine.
 pub fn open(p: Packet, output: &mut [u8]) -> Done {
-    let mut first = 0;
-    // SAFETY: as in `run`.
-    let code = unsafe {
-        schwaemm_open(
-            p.variant,
-            p.key.as_ptr(),
-            p.key.len(),
-            p.nonce.as_ptr(),
-            p.nonce.len(),
-            p.header.as_ptr(),
-            p.header.len(),
-            p.message.as_ptr(),
-            p.message.len(),
-            output.as_mut_ptr(),
-            output.len(),
-            &mut first,
-        )
-    };
-    Done { code, first }
+    at_once!(schwaemm_open, p, output)
 }
