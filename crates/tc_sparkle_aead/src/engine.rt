@@ -340,7 +340,7 @@ pub(crate) fn data_in(e: SparkleEngine, input: &[u8], output: &mut [u8]) -> Spar
 
 // ---- the start
 
-// Whether a key and a nonce are the last loaded pair.
+// Whether a key and a nonce are the last loaded pair; both are looked at whole.
 pub(crate) fn repeats(variant: SparkleVariant, pair: Pair, key: &[u8], nonce: &[u8]) -> bool
     ensures { λ r. ⌜ r ≡ repeats (paramsOf variant) pair (now (key .entry)) (now (nonce .entry)) ⌝ }
 {
@@ -357,11 +357,9 @@ pub(crate) fn repeats(variant: SparkleVariant, pair: Pair, key: &[u8], nonce: &[
     }
     let last_key = pair.key;
     let last_nonce = pair.nonce;
-    if blocks::same_bytes(&last_key, key, k) {
-        blocks::same_bytes(&last_nonce, nonce, n)
-    } else {
-        false
-    }
+    let same_key = blocks::same_bytes(&last_key, key, k);
+    let same_nonce = blocks::same_bytes(&last_nonce, nonce, n);
+    if same_key { same_nonce } else { false }
 }
 
 // The pair once a key and a nonce are loaded.

@@ -1,10 +1,11 @@
 -- `repeats` compares lengths, asks whether there is a pair, and then compares its parts.
-use mathlib.Core.Path.{_≡_, refl, sym, ap, _∙_}
+use mathlib.Core.Path.{_≡_, sym, ap, _∙_}
 use mathlib.Core.Bool.{Bool, false, cond}
 use native.Mathlib.Omega.{arith}
-use lib.ListN.{length, take}
+use lib.ListN.{length}
 use borrow.Author.Tests.{not-true, not-false}
-use Rattle.schwaemm.specs.Bytes.{same}
+use Rattle.tc_sparkle_aead.specs.Variant.{paramsOf}
+use Rattle.tc_sparkle_aead.specs.Engine.{repeats}
 use Rattle.tc_sparkle_aead.proofs.VariantLaws.{small}
 use Rattle.tc_sparkle_aead.proofs.StartCheckLaws.{repeats-key, repeats-nonce, repeats-none, repeats-pair}
 use borrow.Author.Needs.{needs}
@@ -38,33 +39,27 @@ same-bytes-requires c κs =
 
 same-bytes-requires-2 : tie.Need-same-bytes-requires-2
 same-bytes-requires-2 c κs =
-    let nonce = c .before .before .before .before .before .before .before .before .before .before in
+    let nonce = c .before .before .before .before .before .before .before .before .before in
     let s = nonce .before .before .before .before in
     omega (arith, nonce-length s, small (s .args .variant), nonce .nonce-bytes .ensures)
 
-returns-4 : tie.Need-returns-4
-returns-4 c =
-    let both = c .before .before in
-    let first = both .before in
-    let loaded = first .before .before .before .before in
+-- what the two comparisons say together
+compared : (c : tie.After-same-bytes2) → cond (c .before .before .same-bytes .result) (c .same-bytes2 .result) false ≡ repeats (paramsOf (c .before .before .before .before .before .before .before .before .before .before .before .before .before .before .args .variant)) (c .before .before .before .before .before .before .before .before .before .before .before .before .before .before .args .pair) (c .before .before .before .before .before .before .before .before .before .before .before .before .before .before .args .key .now) (c .before .before .before .before .before .before .before .before .before .before .before .before .before .before .args .nonce .now)
+compared c =
+    let loaded = c .before .before .before .before .before .before in
     let nonce = loaded .before .before .before .before in
     let key = nonce .before in
     let s = key .before .before .before .args in
-    sym (ap (λ (t : Bool). cond t (c .same-bytes2 .result) false) (both .if4 .taken))
-    ∙ repeats-pair _ (s .pair) (s .key .now) (s .nonce .now) _ _ _ _ (key .key-bytes .ensures) (nonce .nonce-bytes .ensures)
-    (omega arith) (omega arith) (not-false _ (loaded .if3 .left)) (first .same-bytes .ensures) (c .same-bytes2 .ensures)
+    repeats-pair _ (s .pair) (s .key .now) (s .nonce .now) _ _ _ _ (key .key-bytes .ensures) (nonce .nonce-bytes .ensures)
+    (omega arith) (omega arith) (not-false _ (loaded .if3 .left)) (c .before .before .same-bytes .ensures) (c .same-bytes2 .ensures)
+
+returns-4 : tie.Need-returns-4
+returns-4 c =
+    sym (ap (λ (t : Bool). cond t (c .before .same-bytes2 .result) false) (c .if4 .taken)) ∙ compared (c .before)
 
 returns-5 : tie.Need-returns-5
 returns-5 c =
-    let first = c .before in
-    let loaded = first .before .before .before .before in
-    let nonce = loaded .before .before .before .before in
-    let key = nonce .before in
-    let s = key .before .before .before .args in
-    let n = nonce .nonce-bytes .result in
-    sym (ap (λ (t : Bool). cond t (same (take n (s .pair .nonce)) (take n (s .nonce .now))) false) (c .if4 .left))
-    ∙ repeats-pair _ (s .pair) (s .key .now) (s .nonce .now) _ _ _ _ (key .key-bytes .ensures) (nonce .nonce-bytes .ensures)
-    (omega arith) (omega arith) (not-false _ (loaded .if3 .left)) (first .same-bytes .ensures) refl
+    sym (ap (λ (t : Bool). cond t (c .before .same-bytes2 .result) false) (c .if4 .left)) ∙ compared (c .before)
 
 pub repeats-spec : {M : Type 1} → statement M
 repeats-spec =
