@@ -5,7 +5,7 @@ use Prim.Native.Nat.{ℕ, _+_, _-_, _*_, _≤_, _<_}
 use native.Mathlib.Nat.{zero-mul, add-mul, one-mul, mul-le-mul-right}
 use native.Mathlib.Omega.{arith}
 use lib.ListN.{length, take, drop, length-append, length-drop}
-use lib.Seq.{length-take-le, take-at, drop-at, drop-drop, paste}
+use lib.Seq.{length-take-le, take-take, take-at, drop-at, drop-drop, drop-append-add, paste}
 use Rattle.schwaemm.specs.Blocks.{after, given}
 use Rattle.schwaemm.specs.Schwaemm.{Params, Sizes, mix, crypt, absorbBlock, messageBlock}
 use Rattle.schwaemm.proofs.Cut.{after-add, given-add, after-keeps}
@@ -89,14 +89,22 @@ module _ (p : Params) (step : List ℕ → List ℕ → List ℕ) (words t : Lis
                 (cc (e, rest, r .state, r .position, run-state));
           }
 
--- a block of the stream, as it is gathered in an array
-pub gathered : (p : Params) → Small p → (t block : List ℕ) (pos n : ℕ) → n ≡ p .rate → pos + p .rate ≤ length t
-    → block ≡ inArray 64 (take n (drop pos t)) → take (p .rate) block ≡ take (p .rate) (drop pos t)
-gathered p f t block pos n en fits e =
-    let enough : p .rate ≤ length (drop pos t) = simp length-drop (omega arith) in
-    let full = length-take-le (p .rate) (drop pos t) enough in
-    ap (take (p .rate)) (e ∙ ap (λ (k : ℕ). inArray 64 (take k (drop pos t))) en)
-    ∙ all-inArray (p .rate) 64 (take (p .rate) (drop pos t)) full (omega arith)
+-- n bytes of the stream, gathered in an array of which 32 bytes are looked at; and those of a stream whose held bytes
+-- are all before them
+pub gathered : (t block words : List ℕ) (pos n : ℕ) → n ≤ 32 → pos + n ≤ length t → block ≡ inArray 64 (take n (drop pos t))
+    → words ≡ take 32 block → take n words ≡ take n (drop pos t)
+gathered t block words pos n small fits e f =
+    let enough : n ≤ length (drop pos t) = simp length-drop (omega arith) in
+    ap (take n) f ∙ take-take n 32 block small ∙ ap (take n) e
+    ∙ all-inArray n 64 (take n (drop pos t)) (length-take-le n (drop pos t) enough) (omega arith)
+
+pub from-input : (buffer input words : List ℕ) (held pos n : ℕ) → length buffer ≡ 64 → held ≤ 64 → n ≤ 32 → held ≤ pos
+    → words ≡ take 32 (drop (pos - held) input) → take n words ≡ take n (drop pos (take held buffer ++ input))
+from-input buffer input words held pos n hb hh small gone e =
+    let h = length-take-le held buffer (omega arith) in
+    let at : length (take held buffer) + (pos - held) ≡ pos = omega arith in
+    ap (take n) e ∙ take-take n 32 (drop (pos - held) input) small
+    ∙ ap (take n) (sym (drop-append-add (take held buffer) input (pos - held)) ∙ ap (λ (k : ℕ). drop k (take held buffer ++ input)) at)
 
 -- held bytes and input are long enough where the sum of their lengths is
 pub length-stream : (buffer input : List ℕ) (held n : ℕ) → length buffer ≡ 64 → held ≤ 64 → n ≤ held + length input
@@ -104,16 +112,15 @@ pub length-stream : (buffer input : List ℕ) (held n : ℕ) → length buffer �
 length-stream buffer input held n hb hh enough =
     simp length-append (omega (arith, length-take-le held buffer (omega arith)))
 
--- The header's loop takes up a gathered block.
+-- The header's loop takes up a block.
 pub absorb-turn : (p : Params) → Sizes p → Small p → (words t : List ℕ) (count : ℕ) → length words ≡ 16 → count * p .rate ≤ length t
     → {v : List ℕ} {pos left : ℕ} → Run p (absorbBlock p) words t count v pos left → 0 < left
-    → (block next : List ℕ) (n k : ℕ) → n ≡ p .rate → k ≡ p .slim → block ≡ inArray 64 (take n (drop pos t))
+    → (block next : List ℕ) (n k : ℕ) → n ≡ p .rate → k ≡ p .slim → take n block ≡ take n (drop pos t)
     → next ≡ putState p v (mix p k (stateIn p v) (take (p .rate) block))
     → Run p (absorbBlock p) words t count next (pos + n) (left - 1)
 unfolding absorbBlock
 absorb-turn p h f words t count hw enough {v} {pos} {left} r some block next n k en ek e-block e-next =
-    let fits = run-fits p (absorbBlock p) words t count r some in
-    let the-block = gathered p f t block pos n en (omega arith) e-block in
+    let the-block : take (p .rate) block ≡ take (p .rate) (drop pos t) = rw en at e-block in
     run-turn p (absorbBlock p) words t count (length-absorbBlock p h) (length-stateIn p h f words hw) r some next n en
     (e-next ∙ rw (ek, the-block) refl)
 
@@ -165,16 +172,13 @@ module _ (p : Params) (plain : List ℕ → List ℕ → List ℕ) (words t out�
         (omega (arith, length-done, run-within p (messageBlock p plain) words t count (r .run), room))
 
     module _ (some : 0 < left) (block crypted taken out′ next : List ℕ) (n k : ℕ) (en : n ≡ p .rate) (ek : k ≡ p .slim)
-        (e-block : block ≡ inArray 64 (take n (drop pos t)))
-        (e-crypted : crypted ≡ inArray 64 (crypt p (stateIn p v) (take n block)))
-        (e-out : out′ ≡ paste out pos crypted n)
+        (e-block : take n block ≡ take n (drop pos t))
+        (e-crypted : take (p .rate) crypted ≡ crypt p (stateIn p v) (take (p .rate) block))
+        (e-out : out′ ≡ paste out pos crypted (p .rate))
         (e-taken : take (p .rate) taken ≡ plain (stateIn p v) (take (p .rate) block))
         (e-next : next ≡ putState p v (mix p k (stateIn p v) (take (p .rate) taken))) where
-      fits : pos + p .rate ≤ count * p .rate
-      fits = run-fits p (messageBlock p plain) words t count (r .run) some
-
       the-block : take (p .rate) block ≡ take (p .rate) (drop pos t)
-      the-block = gathered p f t block pos n en (omega (arith, fits, enough)) e-block
+      the-block = rw en at e-block
 
       next-run : Run p (messageBlock p plain) words t count next (pos + n) (left - 1)
       unfolding messageBlock
@@ -186,15 +190,8 @@ module _ (p : Params) (plain : List ℕ → List ℕ → List ℕ) (words t out�
       the-state = run-state p (messageBlock p plain) words t count (length-messageBlock p h plain) whole (r .run)
 
       -- what the block becomes
-      the-crypted : take n crypted ≡ crypt p (stateIn p v) (take (p .rate) (drop pos t))
-      the-crypted =
-          let b = take (p .rate) (drop pos t) in
-          let more : p .rate ≤ length (drop pos t) = simp length-drop (omega (arith, fits, enough)) in
-          let hb = length-take-le (p .rate) (drop pos t) more in
-          let hs = run-length p (messageBlock p plain) words t count (length-messageBlock p h plain) whole (r .run) in
-          let cut : take n block ≡ b = rw en the-block in
-          ap (take n) (e-crypted ∙ ap (λ (x : List ℕ). inArray 64 (crypt p (stateIn p v) x)) cut)
-          ∙ all-inArray n 64 (crypt p (stateIn p v) b) (omega (arith, length-crypt p h (stateIn p v) hs b)) (omega arith)
+      the-crypted : take (p .rate) crypted ≡ crypt p (stateIn p v) (take (p .rate) (drop pos t))
+      the-crypted = e-crypted ∙ ap (crypt p (stateIn p v)) the-block
 
       pub crypt-turn : CryptRun p plain words t out₀ count out′ next (pos + n) (left - 1)
       unfolding given
@@ -203,8 +200,9 @@ module _ (p : Params) (plain : List ℕ → List ℕ → List ℕ) (words t out�
             run = next-run;
             output =
                 e-out ∙ rw (
+                  en,
                   front,
-                  behind n,
+                  behind (p .rate),
                   the-crypted,
                   one-more count left (r .run .some-left) some,
                   given-add (p .rate) (messageBlock p plain) (crypt p) (count - left) 1 (stateIn p words) t,

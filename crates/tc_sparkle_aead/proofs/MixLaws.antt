@@ -14,8 +14,8 @@ use Rattle.sparkle.specs.Sparkle.{xors}
 use Rattle.sparkle.proofs.Lengths.{length-xors}
 use Rattle.schwaemm.specs.Bytes.{toWords, toBytes}
 use Rattle.schwaemm.specs.Schwaemm.{Params, Sizes, outer, inner, permute, feistelSwap, rho1, whitening, mix, crypt}
-use Rattle.schwaemm.proofs.ByteWords.{toWords-take, toBytes-take}
-use Rattle.schwaemm.proofs.Xors.{xors-enough, xors-at}
+use Rattle.schwaemm.proofs.ByteWords.{toWords-take, toBytes-take, toBytes-xors}
+use Rattle.schwaemm.proofs.Xors.{xors-enough, xors-at, xors-take}
 use Rattle.schwaemm.proofs.States.{stateLength, mixed, mix-mixed, mix-exact, length-outer, length-inner}
 use Rattle.tc_sparkle_aead.specs.Calls.{stateIn, putState, feedbackAt, whiteningAt}
 use Rattle.tc_sparkle_aead.proofs.Fill.{laid, laid-turn}
@@ -74,6 +74,16 @@ module _ (p : Params) (z : Sizes p) (words : List ℕ) where
       ap (λ (w : List ℕ). xors (toBytes w) b) outer-in
       ∙ ap (λ (u : List ℕ). xors u b) (sym (toBytes-take (p .rate / 4) words))
       ∙ xors-enough (p .rate / 4 * 4) (toBytes words) b (omega arith)
+
+  -- the same by words, of which the first may be the block's only
+  pub crypt-words : (b : List ℕ)
+      → take (p .rate) (toBytes (xors words b)) ≡ crypt p (stateIn p words) (take (p .rate) (toBytes b))
+  crypt-words b =
+      let block = take (p .rate) (toBytes b) in
+      let n = length-take (p .rate) (toBytes b) in
+      ap (take (p .rate)) (toBytes-xors words b) ∙ xors-take (p .rate) (toBytes words) (toBytes b)
+      ∙ xors-enough (p .rate) (toBytes words) block (omega arith)
+      ∙ sym (crypt-in block (omega arith))
 
 -- Words of the feedback and of the whitening, in an array of at least the state's words.
 module _ (p : Params) (z : Sizes p) (words : List ℕ) (h : stateLength p ≤ length words) where

@@ -69,6 +69,36 @@ pub(crate) fn put(output: &mut [u8], pos: usize, bytes: [u8; 64], n: usize)
     }
 }
 
+// n words written to the output from `pos` on, the low byte first.
+fn put_words(output: &mut [u8], pos: usize, words: [u32; 8], n: usize)
+    requires { ⌜ (n ≤ 8) × (pos + n * 4 ≤ length (now output)) ⌝ }
+    ensures { λ _. ⌜ now (output .exit) ≡ paste (now (output .entry)) pos (toBytes words) (n * 4) ⌝ }
+{
+    let mut k = 0;
+    while k < n {
+        let w = words[k];
+        let i = pos + k * 4;
+        output[i] = (w % 0x100) as u8;
+        output[i + 1] = (w / 0x100 % 0x100) as u8;
+        output[i + 2] = (w / 0x1_0000 % 0x100) as u8;
+        output[i + 3] = (w / 0x100_0000 % 0x100) as u8;
+        k += 1;
+    }
+}
+
+// The rate's words, each variant's number of them written out.
+fn store(variant: SparkleVariant, output: &mut [u8], pos: usize, words: [u32; 8])
+    requires { ⌜ pos + paramsOf variant .rate ≤ length (now output) ⌝ }
+    ensures { λ _. ⌜ now (output .exit) ≡ paste (now (output .entry)) pos (toBytes words) (paramsOf variant .rate) ⌝ }
+{
+    match variant {
+        SparkleVariant::Schwaemm128_128 => put_words(output, pos, words, 4),
+        SparkleVariant::Schwaemm256_128 => put_words(output, pos, words, 8),
+        SparkleVariant::Schwaemm192_192 => put_words(output, pos, words, 6),
+        SparkleVariant::Schwaemm256_256 => put_words(output, pos, words, 8),
+    }
+}
+
 // The same for a tag.
 pub(crate) fn put_tag(output: &mut [u8], pos: usize, tag: [u8; 32], n: usize)
     requires { ⌜ (n ≤ 32) × (pos + n ≤ length (now output)) ⌝ }
@@ -128,6 +158,33 @@ fn word_at(bytes: [u8; 64], k: usize) -> u32
     a + b * 0x100 + c * 0x1_0000 + d * 0x100_0000
 }
 
+// Word k of a slice of bytes from `at` on, little-endian.
+fn word_in(bytes: &[u8], at: usize, k: usize) -> u32
+    requires { ⌜ at + (k * 4 + 3) < length (now bytes) ⌝ }
+    ensures { λ r. ⌜ r ≡ getD (toWords (drop at (now (bytes .entry)))) k 0 ⌝ }
+{
+    let i = at + k * 4;
+    let a = bytes[i] as u32;
+    let b = bytes[i + 1] as u32;
+    let c = bytes[i + 2] as u32;
+    let d = bytes[i + 3] as u32;
+    a + b * 0x100 + c * 0x1_0000 + d * 0x100_0000
+}
+
+// The eight words of 32 bytes of a slice from `at` on.
+fn words_in(bytes: &[u8], at: usize) -> [u32; 8]
+    requires { ⌜ at + 32 ≤ length (now bytes) ⌝ }
+    ensures { λ r. ⌜ toBytes r ≡ take 32 (drop at (now (bytes .entry))) ⌝ }
+{
+    let mut r = [0u32; 8];
+    let mut k = 0;
+    while k < 8 {
+        r[k] = word_in(bytes, at, k);
+        k += 1;
+    }
+    r
+}
+
 // The words of an array of bytes.
 fn words_of(bytes: [u8; 64]) -> [u32; 16]
     ensures { λ r. ⌜ r ≡ toWords bytes ⌝ }
@@ -139,6 +196,21 @@ fn words_of(bytes: [u8; 64]) -> [u32; 16]
         k += 1;
     }
     r
+}
+
+// Words that begin with n bytes of the held ones followed by the input, from `pos` on.
+fn load(buffer: [u8; 64], held: usize, input: &[u8], pos: usize, n: usize) -> [u32; 8]
+    requires { ⌜ (held ≤ 64) × (n ≤ 32) × (pos + n ≤ held + length (now input)) ⌝ }
+    ensures { λ r. ⌜ take n (toBytes r) ≡ take n (drop pos (take held buffer ++ now (input .entry))) ⌝ }
+{
+    if held <= pos {
+        let at = pos - held;
+        if 32 <= input.len() - at {
+            return words_in(input, at);
+        }
+    }
+    let bytes = gather(buffer, held, input, pos, n);
+    words_in(&bytes, 0)
 }
 
 // Byte i of an array of words, little-endian.
@@ -197,25 +269,45 @@ fn whitening(words: [u32; 16], rate: usize, key: usize, k: usize) -> u32
     }
 }
 
-// A block of the rate's bytes is taken up by the state.
-pub(crate) fn mix(
+// A block of the rate's words is taken up by the state; `rate` and `key` are in words.
+fn mix_sized(
     variant: SparkleVariant,
     words: [u32; 16],
-    block: [u8; 64],
+    block: [u32; 8],
     steps: u32,
+    rate: usize,
+    key: usize,
 ) -> [u32; 16]
-    ensures { λ r. ⌜ r ≡ putState (paramsOf variant) words (mix (paramsOf variant) steps (stateIn (paramsOf variant) words) (take (paramsOf variant .rate) block)) ⌝ }
+    requires { ⌜ (rate ≡ paramsOf variant .rate / 4) × (key ≡ paramsOf variant .key / 4) ⌝ }
+    ensures { λ r. ⌜ r ≡ putState (paramsOf variant) words (mix (paramsOf variant) steps (stateIn (paramsOf variant) words) (take (paramsOf variant .rate) (toBytes block))) ⌝ }
 {
-    let rate = variant.nonce_bytes() / 4;
-    let key = variant.key_bytes() / 4;
     let half = rate / 2;
     let mut v = words;
     let mut k = 0;
     while k < rate {
-        v[k] = feedback(words, half, k) ^ word_at(block, k) ^ whitening(words, rate, key, k);
+        v[k] = feedback(words, half, k) ^ block[k] ^ whitening(words, rate, key, k);
         k += 1;
     }
     permute(variant, v, steps)
+}
+
+// The same, each variant with its sizes written out.
+fn mix_words(variant: SparkleVariant, words: [u32; 16], block: [u32; 8], steps: u32) -> [u32; 16]
+    ensures { λ r. ⌜ r ≡ putState (paramsOf variant) words (mix (paramsOf variant) steps (stateIn (paramsOf variant) words) (take (paramsOf variant .rate) (toBytes block))) ⌝ }
+{
+    match variant {
+        SparkleVariant::Schwaemm128_128 => mix_sized(variant, words, block, steps, 4, 4),
+        SparkleVariant::Schwaemm256_128 => mix_sized(variant, words, block, steps, 8, 4),
+        SparkleVariant::Schwaemm192_192 => mix_sized(variant, words, block, steps, 6, 6),
+        SparkleVariant::Schwaemm256_256 => mix_sized(variant, words, block, steps, 8, 8),
+    }
+}
+
+// The same for a block of bytes.
+fn mix(variant: SparkleVariant, words: [u32; 16], block: [u8; 64], steps: u32) -> [u32; 16]
+    ensures { λ r. ⌜ r ≡ putState (paramsOf variant) words (mix (paramsOf variant) steps (stateIn (paramsOf variant) words) (take (paramsOf variant .rate) block)) ⌝ }
+{
+    mix_words(variant, words, words_in(&block, 0), steps)
 }
 
 // What n bytes of a block become, sealed or opened.
@@ -235,6 +327,22 @@ pub(crate) fn crypt(
         i += 1;
     }
     r
+}
+
+// What a block of the rate's words becomes.
+fn crypt_words(variant: SparkleVariant, words: [u32; 16], block: [u32; 8]) -> [u32; 8]
+    ensures { λ r. ⌜ take (paramsOf variant .rate) (toBytes r) ≡ crypt (paramsOf variant) (stateIn (paramsOf variant) words) (take (paramsOf variant .rate) (toBytes block)) ⌝ }
+{
+    [
+        words[0] ^ block[0],
+        words[1] ^ block[1],
+        words[2] ^ block[2],
+        words[3] ^ block[3],
+        words[4] ^ block[4],
+        words[5] ^ block[5],
+        words[6] ^ block[6],
+        words[7] ^ block[7],
+    ]
 }
 
 // ---- blocks before the last
@@ -257,7 +365,7 @@ pub(crate) fn absorb_blocks(
     let mut pos = 0;
     let mut left = count;
     while 0 < left {
-        let next = mix(variant, v, gather(buffer, held, input, pos, rate), slim);
+        let next = mix_words(variant, v, load(buffer, held, input, pos, rate), slim);
         v = next;
         pos += rate;
         left -= 1;
@@ -270,11 +378,11 @@ fn taken_up(
     variant: SparkleVariant,
     opening: bool,
     words: [u32; 16],
-    block: [u8; 64],
-    crypted: [u8; 64],
-) -> [u8; 64]
-    requires { ⌜ crypted ≡ inArray 64 (crypt (paramsOf variant) (stateIn (paramsOf variant) words) (take (paramsOf variant .rate) block)) ⌝ }
-    ensures { λ r. ⌜ take (paramsOf variant .rate) r ≡ plainBy (paramsOf variant) opening (stateIn (paramsOf variant) words) (take (paramsOf variant .rate) block) ⌝ }
+    block: [u32; 8],
+    crypted: [u32; 8],
+) -> [u32; 8]
+    requires { ⌜ take (paramsOf variant .rate) (toBytes crypted) ≡ crypt (paramsOf variant) (stateIn (paramsOf variant) words) (take (paramsOf variant .rate) (toBytes block)) ⌝ }
+    ensures { λ r. ⌜ take (paramsOf variant .rate) (toBytes r) ≡ plainBy (paramsOf variant) opening (stateIn (paramsOf variant) words) (take (paramsOf variant .rate) (toBytes block)) ⌝ }
 {
     if opening { crypted } else { block }
 }
@@ -300,10 +408,10 @@ pub(crate) fn crypt_blocks(
     let mut pos = 0;
     let mut left = count;
     while 0 < left {
-        let block = gather(buffer, held, input, pos, rate);
-        let crypted = crypt(variant, v, block, rate);
-        put(output, pos, crypted, rate);
-        let next = mix(
+        let block = load(buffer, held, input, pos, rate);
+        let crypted = crypt_words(variant, v, block);
+        store(variant, output, pos, crypted);
+        let next = mix_words(
             variant,
             v,
             taken_up(variant, opening, v, block, crypted),

@@ -19,8 +19,8 @@ abbrev μ-loop : tie.MeasureT-loop
 loop-holds : tie.Need-loop-holds Inv-loop μ-loop
 loop-holds c = run-start _ _ _ _ _
 
-gather-requires : tie.Need-gather-requires Inv-loop μ-loop
-gather-requires c κs =
+load-requires : tie.Need-load-requires Inv-loop μ-loop
+load-requires c κs =
     let s = c .before .before .before .before .before in
     let fits = run-fits _ _ _ _ _ (c .before .loop .inv) (c .loop-test .taken) in
     omega (arith, fits, small (s .args .variant), c .before .before .before .nonce-bytes .ensures, s .pre)
@@ -40,8 +40,8 @@ add-pos c =
 
 loop-again : tie.Need-loop-again Inv-loop μ-loop
 loop-again c =
-    let gather = c .before in
-    let test = gather .before in
+    let load = c .before in
+    let test = load .before in
     let at = test .before in
     let slim = at .before in
     let rate = slim .before in
@@ -49,7 +49,7 @@ loop-again c =
     let v = s .args .variant in
     absorb-turn (paramsOf v) (sizes v) (small v) _ _ _ (s .good .1 .0 .1 .0 .1)
     (length-stream _ _ _ _ (s .good .1 .1 .0 .1 .0 .1) (s .pre .0) (s .pre .1)) (at .loop .inv) (test .loop-test .taken) _ _ _ _
-    (rate .nonce-bytes .ensures) (slim .slim-steps .ensures) (gather .gather .ensures) (c .mix .ensures)
+    (rate .nonce-bytes .ensures) (slim .slim-steps .ensures) (load .load .ensures) (c .mix-words .ensures)
 
 returns : tie.Need-returns Inv-loop μ-loop
 returns c = run-end _ _ _ _ _ (c .before .loop .inv) (c .loop-test .left)
@@ -63,7 +63,7 @@ absorb-blocks-spec =
     (λ c κs. tt)
     (λ c κs. tt)
     loop-holds
-    gather-requires
+    load-requires
     (λ c κs. tt)
     add-pos
     (λ c. omega arith)

@@ -29,33 +29,28 @@ same-output c =
 loop-holds : tie.Need-loop-holds Inv-loop μ-loop
 loop-holds c = crypt-start _ _ _ _ _ _
 
-gather-requires : tie.Need-gather-requires Inv-loop μ-loop
-gather-requires c κs =
+load-requires : tie.Need-load-requires Inv-loop μ-loop
+load-requires c κs =
     let at = c .before in
     let s = at .before .before .before .before .before in
     let fits = run-fits _ _ _ _ _ (at .loop .inv .run) (c .loop-test .taken) in
     omega (arith, fits, small (s .args .variant), at .before .before .nonce-bytes .ensures, s .pre)
 
-crypt-requires : tie.Need-crypt-requires Inv-loop μ-loop
-crypt-requires c κs = omega (arith, c .before .before .before .before .nonce-bytes .ensures)
-
-put-requires : tie.Need-put-requires Inv-loop μ-loop
-put-requires c κs =
+store-requires : tie.Need-store-requires Inv-loop μ-loop
+store-requires c κs =
     let test = c .before .before .before in
     let at = test .before in
     let s = at .before .before .before .before .before in
     let fits = run-fits _ _ _ _ _ (at .loop .inv .run) (test .loop-test .taken) in
-    omega (arith, fits, small (s .args .variant), at .before .before .nonce-bytes .ensures, s .pre, same-output at)
+    omega (arith, fits, s .pre, same-output at)
 
 taken-up-requires : tie.Need-taken-up-requires Inv-loop μ-loop
-taken-up-requires c κs =
-    let crypt = c .before .before .before .before in
-    rw (crypt .before .before .before .before .before .nonce-bytes .ensures) at (crypt .crypt .ensures)
+taken-up-requires c κs = c .before .before .before .before .crypt-words .ensures
 
 add-pos : tie.Need-add-pos Inv-loop μ-loop
 add-pos c =
-    let put = c .before .before .before .before in
-    let test = put .before .before .before .before in
+    let store = c .before .before .before .before in
+    let test = store .before .before .before .before in
     let at = test .before in
     let s = at .before .before .before .before .before in
     omega (
@@ -68,10 +63,10 @@ add-pos c =
 
 loop-again : tie.Need-loop-again Inv-loop μ-loop
 loop-again c =
-    let put = c .before .before .before .before in
-    let crypt = put .before .before in
-    let gather = crypt .before in
-    let test = gather .before in
+    let store = c .before .before .before .before in
+    let crypt = store .before .before in
+    let load = crypt .before in
+    let test = load .before in
     let at = test .before in
     let slim = at .before in
     let rate = slim .before in
@@ -80,7 +75,7 @@ loop-again c =
     crypt-turn _ _ _ _ _ _ (sizes v) (small v) (s .good .1 .1 .0 .1 .0 .1)
     (length-stream _ _ _ _ (s .good .1 .1 .1 .0 .1 .0 .1) (s .pre .0) (s .pre .1)) (s .pre .2) (at .loop .inv)
     (test .loop-test .taken) _ _ _ _ _ _ _ (rate .nonce-bytes .ensures) (slim .slim-steps .ensures)
-    (gather .gather .ensures) (crypt .crypt .ensures) (put .put .ensures) (c .before .taken-up .ensures) (c .mix .ensures)
+    (load .load .ensures) (crypt .crypt-words .ensures) (store .store .ensures) (c .before .taken-up .ensures) (c .mix-words .ensures)
 
 same-length : tie.Need-same-length Inv-loop μ-loop
 same-length c = same-output (c .before)
@@ -99,9 +94,9 @@ crypt-blocks-spec =
     (λ c κs. tt)
     (λ c κs. tt)
     loop-holds
-    gather-requires
-    crypt-requires
-    put-requires
+    load-requires
+    (λ c κs. tt)
+    store-requires
     taken-up-requires
     (λ c κs. tt)
     add-pos
