@@ -3,7 +3,7 @@
 // the input together, as one stream, so that nothing is moved on the way.
 ghost use mathlib.Core.Path.{_≡_};
 ghost use mathlib.Core.List.{_++_};
-ghost use Prim.Native.Nat.{_+_, _*_, _/_, _%_, _≤_, _<_};
+ghost use Prim.Native.Nat.{ℕ, _+_, _*_, _/_, _%_, _≤_, _<_};
 ghost use lib.ListN.{length, take, drop, getD};
 ghost use lib.Seq.{paste};
 ghost use Rattle.schwaemm.specs.Bytes.{toWords, toBytes, same};
@@ -269,17 +269,16 @@ fn whitening(words: [u32; 16], rate: usize, key: usize, k: usize) -> u32
     }
 }
 
-// A block of the rate's words is taken up by the state; `rate` and `key` are in words.
-fn mix_sized(
+// The words that are permuted when a block is taken up; `rate` and `key` are in words.
+fn taken(
     variant: SparkleVariant,
     words: [u32; 16],
     block: [u32; 8],
-    steps: u32,
     rate: usize,
     key: usize,
 ) -> [u32; 16]
     requires { ⌜ (rate ≡ paramsOf variant .rate / 4) × (key ≡ paramsOf variant .key / 4) ⌝ }
-    ensures { λ r. ⌜ r ≡ putState (paramsOf variant) words (mix (paramsOf variant) steps (stateIn (paramsOf variant) words) (take (paramsOf variant .rate) (toBytes block))) ⌝ }
+    ensures { λ r. ⌜ ((steps : ℕ) → putState (paramsOf variant) r (permute (paramsOf variant) steps (stateIn (paramsOf variant) r)) ≡ putState (paramsOf variant) words (mix (paramsOf variant) steps (stateIn (paramsOf variant) words) (take (paramsOf variant .rate) (toBytes block)))) ⌝ }
 {
     let half = rate / 2;
     let mut v = words;
@@ -288,18 +287,38 @@ fn mix_sized(
         v[k] = feedback(words, half, k) ^ block[k] ^ whitening(words, rate, key, k);
         k += 1;
     }
-    permute(variant, v, steps)
+    v
 }
 
-// The same, each variant with its sizes written out.
+// A block of the rate's words is taken up by the state, with the sizes of each variant written out.
 fn mix_words(variant: SparkleVariant, words: [u32; 16], block: [u32; 8], steps: u32) -> [u32; 16]
     ensures { λ r. ⌜ r ≡ putState (paramsOf variant) words (mix (paramsOf variant) steps (stateIn (paramsOf variant) words) (take (paramsOf variant .rate) (toBytes block))) ⌝ }
 {
     match variant {
-        SparkleVariant::Schwaemm128_128 => mix_sized(variant, words, block, steps, 4, 4),
-        SparkleVariant::Schwaemm256_128 => mix_sized(variant, words, block, steps, 8, 4),
-        SparkleVariant::Schwaemm192_192 => mix_sized(variant, words, block, steps, 6, 6),
-        SparkleVariant::Schwaemm256_256 => mix_sized(variant, words, block, steps, 8, 8),
+        SparkleVariant::Schwaemm128_128 => {
+            sparkle::scalar::sparkle_scalar(
+                taken(variant, words, block, 4, 4),
+                StateWords::Words8,
+                steps,
+            )
+        }
+        SparkleVariant::Schwaemm256_128 => {
+            sparkle::scalar::sparkle_scalar(
+                taken(variant, words, block, 8, 4),
+                StateWords::Words12,
+                steps,
+            )
+        }
+        SparkleVariant::Schwaemm192_192 => {
+            sparkle::scalar::sparkle_scalar(
+                taken(variant, words, block, 6, 6),
+                StateWords::Words12,
+                steps,
+            )
+        }
+        SparkleVariant::Schwaemm256_256 => {
+            sparkle::sse2::sparkle_opt16(taken(variant, words, block, 8, 8), steps)
+        }
     }
 }
 
