@@ -27,18 +27,22 @@ opens-direction (Data d) = refl
 opens-direction (Final d) = refl
 
 -- the data begins in Init and in Aad
-module _ (e : SparkleEngine) (d : Direction) (at : Point) {r : SparkleEngine} where
-  pub begin-init : e .current .phase ≡ Init d → at ≡ withoutHeader d (e .current) → r ≡ atPoint e at 0
-      → r ≡ beginBy (e .current .phase) e
-  begin-init is ea er =
-      let by : beginBy (Init d) e ≡ beginBy (e .current .phase) e = sym (ap (λ (x : Phase). beginBy x e) is) in
-      er ∙ ap (λ (x : Point). atPoint e x 0) ea ∙ by
+module _ (e : SparkleEngine) (d : Direction) where
+  in-init : beginBy (Init d) e ≡ atPoint e (withoutHeader d (e .current)) 0
+  in-init = refl
 
-  pub begin-aad : (n : ℕ) → e .current .phase ≡ Aad d → at ≡ afterHeader (paramsOf (e .variant)) d (e .current)
-      → n ≡ paramsOf (e .variant) .big → r ≡ atPoint e at n → r ≡ beginBy (e .current .phase) e
-  begin-aad n is ea en er =
-      let by : beginBy (Aad d) e ≡ beginBy (e .current .phase) e = sym (ap (λ (x : Phase). beginBy x e) is) in
-      er ∙ ap₂ (atPoint e) ea en ∙ by
+  in-aad : beginBy (Aad d) e ≡ atPoint e (afterHeader (paramsOf (e .variant)) d (e .current)) (paramsOf (e .variant) .big)
+  in-aad = refl
+
+  module _ (at : Point) {r : SparkleEngine} where
+    pub begin-init : e .current .phase ≡ Init d → at ≡ withoutHeader d (e .current) → r ≡ atPoint e at 0
+        → r ≡ beginBy (e .current .phase) e
+    begin-init is ea er =
+        er ∙ ap (λ (x : Point). atPoint e x 0) ea ∙ sym (ap (λ (x : Phase). beginBy x e) is ∙ in-init)
+
+    pub begin-aad : (n : ℕ) → e .current .phase ≡ Aad d → at ≡ afterHeader (paramsOf (e .variant)) d (e .current)
+        → n ≡ paramsOf (e .variant) .big → r ≡ atPoint e at n → r ≡ beginBy (e .current .phase) e
+    begin-aad n is ea en er = er ∙ ap₂ (atPoint e) ea en ∙ sym (ap (λ (x : Phase). beginBy x e) is ∙ in-aad)
 
 -- neither Init nor Aad
 pub begin-kept : (phase : Phase) → OneOf (0 ∷ (3 ∷ (4 ∷ []))) (tagOf the-type phase) → (e : SparkleEngine)

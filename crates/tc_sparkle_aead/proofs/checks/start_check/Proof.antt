@@ -20,8 +20,9 @@ returns-3 c = sym (startCheck-size _ _ _ _ _ _ (omega arith) (omega arith) (omeg
 
 returns-4 : tie.Need-returns-4
 returns-4 c =
-    sym (startCheck-opening _ _ _ _ _ _ (omega arith) (omega arith) (omega arith)
-    (sym (c .before .opens .ensures) ∙ c .if4 .taken))
+    let s = c .before .before .before .before .before .before .before .before .args in
+    sym (startCheck-opening (paramsOf (s .variant)) (s .direction) (s .key) (s .nonce) (s .size) (s .repeats) (omega arith)
+    (omega arith) (omega arith) (sym (c .before .opens .ensures) ∙ c .if4 .taken))
 
 returns-5 : tie.Need-returns-5
 returns-5 c =
