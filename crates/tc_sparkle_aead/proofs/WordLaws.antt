@@ -19,7 +19,7 @@ first-word (x ∷ (y ∷ [])) h = absurd (omega arith)
 first-word (x ∷ (y ∷ (z ∷ []))) h = absurd (omega arith)
 first-word (x ∷ (y ∷ (z ∷ (t ∷ b)))) h = refl
 
-pub toWords-at : (b : List ℕ) (k : ℕ) → k * 4 + 3 < length b → getD (toWords b) k 0 ≡ getD b (k * 4) 0 + getD b (k * 4 + 1) 0 * 2 ^ 8 + getD b (k * 4 + 2) 0 * 2 ^ 16 + getD b (k * 4 + 3) 0 * 2 ^ 24
+toWords-at : (b : List ℕ) (k : ℕ) → k * 4 + 3 < length b → getD (toWords b) k 0 ≡ getD b (k * 4) 0 + getD b (k * 4 + 1) 0 * 2 ^ 8 + getD b (k * 4 + 2) 0 * 2 ^ 16 + getD b (k * 4 + 3) 0 * 2 ^ 24
 toWords-at b k h =
     let w = first-word (drop (k * 4) b) (simp length-drop (omega arith)) in
     simp (getD-drop, add-zero) at (rw (← toWords-drop k b) at w)

@@ -145,19 +145,6 @@ pub(crate) fn same_bytes(a: &[u8], b: &[u8], n: usize) -> bool
 
 // ---- words
 
-// Word k of an array of bytes, little-endian.
-fn word_at(bytes: [u8; 64], k: usize) -> u32
-    requires { ⌜ k < 16 ⌝ }
-    ensures { λ r. ⌜ r ≡ getD (toWords bytes) k 0 ⌝ }
-{
-    let i = k * 4;
-    let a = bytes[i] as u32;
-    let b = bytes[i + 1] as u32;
-    let c = bytes[i + 2] as u32;
-    let d = bytes[i + 3] as u32;
-    a + b * 0x100 + c * 0x1_0000 + d * 0x100_0000
-}
-
 // Word k of a slice of bytes from `at` on, little-endian.
 fn word_in(bytes: &[u8], at: usize, k: usize) -> u32
     requires { ⌜ at + (k * 4 + 3) < length (now bytes) ⌝ }
@@ -192,7 +179,7 @@ fn words_of(bytes: [u8; 64]) -> [u32; 16]
     let mut r = [0u32; 16];
     let mut k = 0;
     while k < 16 {
-        r[k] = word_at(bytes, k);
+        r[k] = word_in(&bytes, 0, k);
         k += 1;
     }
     r

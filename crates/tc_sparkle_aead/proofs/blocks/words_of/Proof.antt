@@ -1,5 +1,5 @@
 -- `words_of` is the words of the array: the loop lays them over zeros.
-use mathlib.Core.Path.{_≡_, refl}
+use mathlib.Core.Path.{_≡_, refl, sym}
 use Prim.Native.Nat.{_≤_, _-_}
 use native.Mathlib.Omega.{arith}
 use lib.ListN.{length}
@@ -16,10 +16,10 @@ Inv-loop bytes r₀ k₀ r k = (k ≤ 16) × (r ≡ laid (toWords bytes) (zeros 
 abbrev μ-loop : tie.MeasureT-loop
 μ-loop bytes r₀ k₀ r k = 16 - k
 
-words-length : (s : tie.Start Inv-loop μ-loop) → length (toWords (s .args .bytes)) ≡ 16
+words-length : (s : tie.Start Inv-loop μ-loop) → length (toWords (s .args .t1)) ≡ 16
 words-length s =
-    let h : length (s .args .bytes) ≡ 64 = s .good .0 .1 .0 .1 in
-    omega (arith, length-toWords (s .args .bytes) (omega arith))
+    let h : length (s .args .t1) ≡ 64 = s .good .0 .1 .0 .1 in
+    omega (arith, length-toWords (s .args .t1) (omega arith))
 
 loop-holds : tie.Need-loop-holds Inv-loop μ-loop
 unfolding zeros laid
@@ -27,8 +27,8 @@ loop-holds c = (omega arith, refl)
 
 loop-again : tie.Need-loop-again Inv-loop μ-loop
 loop-again c =
-    let h = words-length (c .before .before .before) in
-    (omega arith, fill-turn 16 _ (c .before .before .loop .inv .1) (c .word-at .ensures) (omega arith) (omega arith))
+    let h = words-length (c .before .before .before .before) in
+    (omega arith, fill-turn 16 _ (c .before .before .before .loop .inv .1) (c .word-in .ensures) (omega arith) (omega arith))
 
 returns : tie.Need-returns Inv-loop μ-loop
 returns c =
@@ -42,7 +42,8 @@ words-of-spec =
     Inv-loop
     μ-loop
     loop-holds
-    (λ c κs. omega arith)
+    (λ c. sym (c .before .before .before .good .0 .1 .0 .1))
+    (λ c κs. omega (arith, c .before .before .before .good .0 .1 .0 .1))
     (λ c. omega arith)
     (λ c. omega arith)
     (λ c. omega arith)
