@@ -1,6 +1,7 @@
 //! The SSE2 form of the permutation equals the scalar form on pseudo-random
 //! 16-word states. sse2.rs asserts an even number of steps in a debug build,
-//! so odd numbers are compared in a release build only.
+//! so odd numbers are compared in a release build only. The rows of
+//! docs/DIFFERENCES.md, section 1, on the permutation are shown too.
 
 use tc_sparkle_aead::scalar::{ROUND_CONSTANTS, arx_box_at, ell_at, sparkle_scalar_at};
 use tc_sparkle_aead::sparkle_opt16;
@@ -51,6 +52,40 @@ fn forms_agree_on_odd_counts() {
     for steps in (1..=63).step_by(2) {
         compare(&mut words, steps);
     }
+}
+
+/// docs/DIFFERENCES.md, section 1, odd step counts: a debug build panics, on
+/// the smallest one already.
+#[cfg(debug_assertions)]
+#[test]
+#[should_panic(expected = "left == right")]
+fn one_step_panics_in_debug() {
+    sparkle_opt16(&mut [0; 16], 1);
+}
+
+/// docs/DIFFERENCES.md, section 1, number of state words: with none the Rust
+/// still changes word 1.
+#[test]
+fn no_state_words_change_word_1() {
+    let mut state = [0; 16];
+    sparkle_scalar_at(&mut state, 0, 1);
+    let mut expected = [0; 16];
+    expected[1] = ROUND_CONSTANTS[0];
+    assert_eq!(state, expected);
+}
+
+/// The same: below 20 words there is a result, with 20 the Rust panics.
+#[test]
+fn fewer_than_twenty_state_words_give_a_result() {
+    for words in 0..20 {
+        sparkle_scalar_at(&mut [0; 16], words, 1);
+    }
+}
+
+#[test]
+#[should_panic(expected = "index out of bounds")]
+fn twenty_state_words_panic() {
+    sparkle_scalar_at(&mut [0; 16], 20, 1);
 }
 
 /// The words beyond the state's stay as they are.
