@@ -5,11 +5,9 @@ use mathlib.Core.Bool.{true, false}
 use mathlib.Core.List.{List, [], _∷_, map}
 use Rattle.schwaemm.specs.Bytes.{same}
 use Rattle.schwaemm.specs.Blocks.{ready}
-use Rattle.schwaemm.specs.Schwaemm.{leading, stepsOf, steps}
 use Rattle.tc_sparkle_aead.specs.declared.variant.SparkleVariant.{SparkleVariant}
 use Rattle.tc_sparkle_aead.specs.declared.variant.SparkleVariant.the-variants.{«Schwaemm128_128»}
 use Rattle.tc_sparkle_aead.specs.declared.engine.SparkleEngine.{SparkleEngine}
-use Rattle.tc_sparkle_aead.specs.Variant.{paramsOf}
 use Rattle.tc_sparkle_aead.specs.Engine.{newEngine, noMessage, noMac, noSteps, initSteps, zeros}
 use Rattle.tc_sparkle_aead.specs.Calls.{addSteps, finalPoint}
 use Rattle.tc_sparkle_aead.specs.Checks.{updateLen, totalLen, aadCheck, dataCheck, endCheck, startCheck}
@@ -17,18 +15,11 @@ use Rattle.claims.specs.Call.{Call, Shape, shape, step, Line, lines, she
 use Rattle.claims.specs.Call.Outcome.{ok, no}
 use Rattle.claims.specs.Reader.{Verdict, newReader, read, notes, verdicts}
 use Rattle.claims.specs.Reader.Verdict.{Yes, No, None}
-use Rattle.claims.specs.Machine.{counts}
 use Rattle.claims.specs.Worked.{worked, row}
 use Rattle.claims.proofs.Kept.{Follows, follows-new}
 use Rattle.claims.proofs.PublicState.{Public, publicOf, next, next-is, lineBy, line-is}
 use Rattle.claims.proofs.Demand3.{askedAll, asked-are-notes}
 use Rattle.claims.proofs.EngineMeets.{linked, keeps}
-
--- What is asked of its steps.
-pub worked-counts : counts (paramsOf «Schwaemm128_128») newReader 0 worked
-    ≡ 10 ∷ (17 ∷ (41 ∷ (41 ∷ (41 ∷ (51 ∷ (51 ∷ (0 ∷ [])))))))
-unfolding counts read startCheck aadCheck dataCheck updateLen endCheck totalLen ready leading stepsOf steps same
-worked-counts = refl
 
 -- Its verdicts: the first pair is new, the last repeats it.
 pub worked-verdicts : verdicts «Schwaemm128_128» worked

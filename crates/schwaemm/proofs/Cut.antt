@@ -37,9 +37,6 @@ module _ (rate keep : ℕ) where
     unfolding ready
     ready-none n h = div-eq-of-lt (omega arith)
 
-    pub rest-all : (n : ℕ) → n ≤ keep + rate → n - ready rate keep n * rate ≡ n
-    rest-all n h = rw (ready-none n h) (omega arith)
-
     -- the cut law for the number of blocks
     pub ready-add : (n m : ℕ)
         → ready rate keep (n + m) ≡ ready rate keep n + ready rate keep (n - ready rate keep n * rate + m)

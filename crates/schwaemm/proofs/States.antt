@@ -4,12 +4,12 @@
 use mathlib.Core.Path.{_≡_, refl, sym, ap, _∙_}
 use mathlib.Core.Bool.{Bool, true, false, cond}
 use mathlib.Core.List.{List, [], _∷_, _++_, append-assoc}
-use Prim.Native.Nat.{ℕ, zero, suc, _+_, _-_, _*_, _/_, _^_, _≤_, _<_, min}
+use Prim.Native.Nat.{ℕ, _+_, _-_, _*_, _/_, _^_, _≤_, _<_, min}
 use native.Mathlib.Omega.{arith}
 use lib.Dec.{ltb, lit<}
 use lib.Pow.{pow-lt, shl-lt}
 use lib.Bits.{bitXor, xor-lt}
-use lib.ListN.{length, take, getD, set, replicate, length-append, length-take, length-drop, length-set, length-replicate, replicate-append-replicate}
+use lib.ListN.{length, take, getD, replicate, length-append, length-take, length-drop, length-set, length-replicate, replicate-append-replicate}
 use lib.Seq.{take-at}
 use Rattle.sparkle.specs.Sparkle.{xors, state}
 use Rattle.sparkle.proofs.Lengths.{length-sparkle, length-xors}
@@ -35,42 +35,6 @@ module _ (p : Params) where
   pub words-permute : (k : ℕ) (s : List ℕ) → Words (permute p k s)
   unfolding permute
   words-permute k s = words-sparkle ((p .rate + p .key) / 8) k s
-
-  pub words-mix : (k : ℕ) (s block : List ℕ) → Words (mix p k s block)
-  unfolding mix
-  words-mix k s block = words-permute k (mixed p s block)
-
-  pub words-mixLast : (short : ℕ) (s block : List ℕ) → Words (mixLast p short s block)
-  unfolding mixLast
-  words-mixLast short s block = words-mix (p .big) (withDomain p (lastV p short block) s) (padded p block)
-
-  pub words-absorbBlock : (s block : List ℕ) → Words (absorbBlock p s block)
-  unfolding absorbBlock
-  words-absorbBlock s block = words-mix (p .slim) s block
-
-  pub words-messageBlock : (plain : List ℕ → List ℕ → List ℕ) (s block : List ℕ)
-      → Words (messageBlock p plain s block)
-  unfolding messageBlock
-  words-messageBlock plain s block = words-mix (p .slim) s (plain s block)
-
-  pub words-initialise : (key nonce : List ℕ) → Words (initialise p key nonce)
-  unfolding initialise
-  words-initialise key nonce = words-permute (p .big) (toWords nonce ++ toWords key)
-
-  pub words-absorb : (s a : List ℕ) → Words s → Words (absorb p s a)
-  unfolding absorb ifEmpty
-  words-absorb s [] hs = hs
-  words-absorb s (x ∷ a) hs = words-mixLast 0 _ _
-
-  pub words-prepared : (key nonce header : List ℕ) → Words (prepared p key nonce header)
-  unfolding prepared
-  words-prepared key nonce header = words-absorb (initialise p key nonce) header (words-initialise key nonce)
-
-  pub words-message : (plain : List ℕ → List ℕ → List ℕ) (s d : List ℕ) → Words s
-      → Words (message p plain s d)
-  unfolding message ifEmpty
-  words-message plain s [] hs = hs
-  words-message plain s (x ∷ d) hs = words-mixLast 2 _ _
 
 -- Lengths.
 module _ (p : Params) (h : Sizes p) where

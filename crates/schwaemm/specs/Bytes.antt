@@ -1,7 +1,7 @@
 -- Bytes and words, little-endian, and lists of bytes.
 use Prim.Native.Nat.{ℕ, _+_, _*_, _/_, _%_, _^_}
 use mathlib.Core.Bool.{Bool, true, false, cond}
-use mathlib.Core.List.{List, [], _∷_, _++_}
+use mathlib.Core.List.{List, [], _∷_}
 use lib.Dec.{eqb}
 
 -- The words of a list of bytes, four bytes to a word, the low byte first; bytes that are missing at the end are 0.

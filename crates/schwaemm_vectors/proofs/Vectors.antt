@@ -1,4 +1,4 @@
--- Known answers of the specification, one for each variant, until a program runs them on the code. The header has 20
+-- Known answers of the specification itself, one for each variant; the code runs more of them. The header has 20
 -- bytes and the message 33, so that both end in a short block and the message has full blocks before it. The bytes
 -- expected are the Rust original's. Each theorem is shown by computing.
 use mathlib.Core.Path.{_≡_, refl}

@@ -1,10 +1,9 @@
 -- Every word stays below 2^32, part by part; the permutation's words are below 2^32 whatever it is given.
 use mathlib.Core.Path.{_≡_, refl, sym, ap, ap₂, _∙_}
 use mathlib.Core.List.{List, [], _∷_, _++_, map, append-nil}
-use Prim.Native.Nat.{ℕ, zero, suc, _+_, _-_, _%_, _^_, _<_, _≤_}
+use Prim.Native.Nat.{ℕ, zero, suc, _+_, _%_, _^_, _<_, _≤_}
 use native.Mathlib.Nat.{mod-lt, mod-eq-of-lt}
 use native.Mathlib.Omega.{arith}
-use lib.Pow.{pow-pos}
 use lib.Dec.{lit<, lit≤}
 use lib.Bits.{bitXor, xor-lt}
 use lib.ListN.{length, take, drop, getD, set, replicate, drop-of-length-le}

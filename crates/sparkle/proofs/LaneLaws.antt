@@ -6,8 +6,8 @@ use Prim.Native.Nat.{ℕ, _+_, _-_, _*_, _/_, _%_, _^_, _≤_, _<_}
 use native.Mathlib.Nat.{add-zero, mod-lt, mod-eq-of-lt, div-eq-of-lt, lt-of-lt-of-le, div-add-mod'}
 use native.Mathlib.Omega.{arith}
 use lib.Dec.{lit<, lit≤}
-use lib.Pow.{pow-mono, pow-pos, shr-shr, high, low}
-use lib.Bits.{bitXor, bitAnd, bitOr, xor-shr, xor-mod, xor-lt, xor-comm, xor-zero-r, xor-block, xor-shifted, or-shifted, and-mask, and-high}
+use lib.Pow.{pow-mono, shr-shr}
+use lib.Bits.{bitXor, bitAnd, bitOr, xor-shr, xor-mod, xor-lt, xor-comm, xor-zero-r, xor-block, or-shifted, and-mask, and-high}
 use lib.ListN.{getD}
 use Rattle.sparkle.specs.Words.{addw, shlw, rotr, ell}
 use Rattle.sparkle.specs.declared.sse2.Groups.{Groups}

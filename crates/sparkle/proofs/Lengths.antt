@@ -1,9 +1,9 @@
 -- The lengths of the permutation's parts. The permutation of b branches gives b + b words, whatever it is given.
-use mathlib.Core.Path.{_≡_, refl, sym, ap, _∙_}
-use mathlib.Core.List.{List, [], _∷_, _++_, map}
-use Prim.Native.Nat.{ℕ, zero, suc, _+_, _-_, _%_, _^_, min}
+use mathlib.Core.Path.{_≡_, refl, ap, _∙_}
+use mathlib.Core.List.{List, [], _∷_, _++_}
+use Prim.Native.Nat.{ℕ, zero, suc, _+_, _%_, _^_, min}
 use native.Mathlib.Omega.{arith}
-use lib.ListN.{length, take, drop, replicate, length-append, length-take, length-drop, length-set, length-replicate, length-map}
+use lib.ListN.{length, take, replicate, length-append, length-take, length-drop, length-set, length-replicate, length-map}
 use Rattle.sparkle.specs.Sparkle.{constants, boxes, xors, xorEach, feistel, linear, step, run, state, sparkle}
 
 pub length-constants : (s : ℕ) (w : List ℕ) → length (constants s w) ≡ length w

@@ -1,5 +1,5 @@
 -- A rotation as two shifts, whose bits do not meet: joined by or, by xor, or added one after the other.
-use mathlib.Core.Path.{_≡_, refl, sym, ap, ap₂, subst, _∙_}
+use mathlib.Core.Path.{_≡_, sym, ap, ap₂, subst, _∙_}
 use Prim.Native.Nat.{ℕ, _+_, _-_, _*_, _/_, _%_, _^_, _≤_, _<_}
 use native.Mathlib.Nat.{mul-mod-left, add-zero, add-assoc, mod-lt, mod-add-mod}
 use native.Mathlib.Omega.{arith}

@@ -4,7 +4,7 @@ use mathlib.Core.List.{List}
 use Prim.Native.Nat.{ℕ, zero, suc, _+_, _-_, _%_, _^_, _≤_, _<_}
 use native.Mathlib.Nat.{zero-add, add-zero, suc-add}
 use native.Mathlib.Omega.{arith}
-use Rattle.sparkle.specs.Sparkle.{rcon, constants, boxes, linear, step, run}
+use Rattle.sparkle.specs.Sparkle.{constants, step, run}
 
 -- steps i from s and then steps j from s + i are i + j steps from s
 pub run-add : (b s i j : ℕ) (w : List ℕ) → run b s (i + j) w ≡ run b (s + i) j (run b s i w)

@@ -1,6 +1,6 @@
 -- A list of known length, written out: on `tab n f` a definition by cases computes, and `tabbed` says that a list of n
 -- elements is one.
-use mathlib.Core.Path.{_≡_, refl, sym, ap, subst, _∙_}
+use mathlib.Core.Path.{_≡_, refl, ap, subst}
 use mathlib.Core.List.{List, [], _∷_}
 use Prim.Native.Nat.{ℕ, zero, suc}
 use lib.ListN.{length, getD}

@@ -1,7 +1,6 @@
 -- Xor is associative and cancels, by induction on the binary digits of the first number.
 use mathlib.Core.Path.{_≡_, refl, sym, ap, ap₂, _∙_}
-use Prim.Native.Nat.{ℕ, zero, suc, _+_, _*_, _/_, _%_, _^_, _<_}
-use native.Mathlib.Nat.{mod-lt}
+use Prim.Native.Nat.{ℕ, zero, suc, _+_, _*_, _/_, _%_, _<_}
 use native.Mathlib.Omega.{arith}
 use lib.Arith.{bin-ind}
 use lib.Bits.{bitXor, differ, xor-step, xor-self, xor-zero-r}

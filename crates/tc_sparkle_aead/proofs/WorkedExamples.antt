@@ -6,6 +6,7 @@ use Prim.Native.Nat.{ℕ, zero-le, _-_, _^_}
 use native.Mathlib.Omega.{arith}
 use lib.ListN.{length}
 use borrow.Author.Tests.{le-ltb}
+use Rattle.sparkle.proofs.WorkedExamples.{ell-of-one, ell-of-two-halves}
 use Rattle.sparkle.specs.Words.{ell, rotr}
 use Rattle.schwaemm.specs.Blocks.{ready}
 use Rattle.schwaemm.specs.Schwaemm.{domain, leading, stepsOf, steps}
@@ -108,8 +109,8 @@ worked-examples = record {
   too-long-number = refl;
   longest-new = refl;
   too-long-new = refl;
-  ell-1 = refl;
-  ell-10002 = refl;
+  ell-1 = ell-of-one;
+  ell-10002 = ell-of-two-halves;
   header-constant-1 = refl;
   header-constant-3 = refl;
   steps-20-33 = refl;

@@ -1,3 +1,4 @@
+-- The export: the code is returned, the place goes out by `place`.
 use mathlib.Core.Path.{ap}
 use Rattle.host.specs.declared.run.Stop.{Stop}
 use borrow.Author.Needs.{needs}

@@ -1,3 +1,4 @@
+-- The export: the reply's number is returned, its first value goes out by `first`.
 use mathlib.Core.Path.{ap}
 use Rattle.host.specs.declared.reply.Reply.{Reply}
 use borrow.Author.Needs.{needs}

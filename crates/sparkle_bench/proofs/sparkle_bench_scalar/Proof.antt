@@ -1,3 +1,4 @@
+-- `sparkle_bench_scalar` runs the scalar form on the array that it is lent.
 use borrow.Author.Tests.{ne-eqb}
 use borrow.Author.Needs.{needs}
 use Rattle.sparkle_bench.proofs.sparkle_bench_scalar.Statement.{statement}

@@ -1,3 +1,4 @@
+-- `number_at` reads eight bytes, the low one first: two words.
 use Rattle.host.specs.Bytes.{numberAt}
 use borrow.Author.Needs.{needs}
 use Rattle.host.proofs.bytes.number_at.Statement.{statement}

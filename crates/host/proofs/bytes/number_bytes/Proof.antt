@@ -1,3 +1,4 @@
+-- `number_bytes` gives the eight bytes of a number, the low one first.
 use Rattle.host.specs.Bytes.{number}
 use borrow.Author.Needs.{needs}
 use Rattle.host.proofs.bytes.number_bytes.Statement.{statement}

@@ -1,3 +1,4 @@
+-- `put_number` writes the eight bytes of a number.
 use Rattle.host.proofs.AnswerLaws.{number-written}
 use borrow.Author.Needs.{needs}
 use Rattle.host.proofs.bytes.put_number.Statement.{statement}

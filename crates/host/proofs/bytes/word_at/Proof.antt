@@ -1,3 +1,4 @@
+-- `word_at` reads four bytes, the low one first.
 use Rattle.host.specs.Bytes.{wordAt}
 use borrow.Author.Needs.{needs}
 use Rattle.host.proofs.bytes.word_at.Statement.{statement}

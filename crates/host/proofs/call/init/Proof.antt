@@ -1,3 +1,4 @@
+-- The start: its three runs of bytes are key, nonce and header.
 use mathlib.Core.Path.{_≡_, refl, ap, _∙_}
 use lib.ListN.{drop}
 use Rattle.tc_sparkle_aead.specs.declared.engine.Started.{Started}

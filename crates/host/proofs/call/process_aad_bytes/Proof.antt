@@ -1,3 +1,4 @@
+-- The header call: its first run of bytes is the header.
 use mathlib.Core.Path.{_≡_, refl, ap, _∙_}
 use lib.ListN.{drop}
 use Rattle.tc_sparkle_aead.specs.declared.engine.Done.{Done}

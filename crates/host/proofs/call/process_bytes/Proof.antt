@@ -1,3 +1,4 @@
+-- The data call: the output of the list goes behind the head, then the call, then the head.
 use mathlib.Core.Path.{_≡_, refl, ap, ap₂, _∙_}
 use mathlib.Core.List.{List, _++_}
 use Prim.Native.Nat.{ℕ, _+_, _-_, _≤_}

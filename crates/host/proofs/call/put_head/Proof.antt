@@ -1,3 +1,4 @@
+-- The head of an answer, number by number.
 use mathlib.Core.Path.{ap, _∙_}
 use Prim.Native.Nat.{ℕ}
 use lib.Seq.{paste}

@@ -1,3 +1,4 @@
+-- The head of a call, number by number.
 use Rattle.host.specs.CallList.{headOf}
 use borrow.Author.Needs.{needs}
 use Rattle.host.proofs.call.read_head.Statement.{statement}

@@ -1,3 +1,4 @@
+-- Whether a tag can be read, as a byte.
 use mathlib.Core.Path.{sym, ap, _∙_}
 use borrow.Author.Needs.{needs}
 use Rattle.tc_sparkle_aead.specs.declared.engine.Mac.{Mac}

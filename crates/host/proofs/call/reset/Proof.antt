@@ -1,3 +1,4 @@
+-- A reset answers 0.
 use mathlib.Core.Path.{refl}
 use lib.ListN.{drop}
 use Rattle.claims.specs.Call.{Call, step}

@@ -1,3 +1,4 @@
+-- Three lengths against what is left, compared by subtraction.
 use mathlib.Core.Path.{refl}
 use Prim.Native.Nat.{_+_, _-_}
 use native.Mathlib.Omega.{arith}

@@ -1,3 +1,4 @@
+-- The tag's bytes where one can be read, else 0.
 use mathlib.Core.Path.{_≡_, sym, ap, _∙_}
 use mathlib.Core.Bool.{Bool, cond}
 use Prim.Native.Nat.{ℕ}

@@ -1,3 +1,4 @@
+-- The start on a new engine, and where it is not refused the data call.
 use mathlib.Core.Path.{sym, ap, _∙_}
 use borrow.Author.Tests.{not-true, not-false}
 use Rattle.tc_sparkle_aead.specs.declared.aead_init_error.AeadInitResult.the-variants.{Ok as Started, Err as Refused}

@@ -1,3 +1,4 @@
+-- Room for an answer, compared by subtraction.
 use mathlib.Core.Path.{refl}
 use Prim.Native.Nat.{_+_, _-_}
 use native.Mathlib.Omega.{arith}

@@ -1,3 +1,4 @@
+-- The numbers 1 to 4.
 use mathlib.Core.Path.{refl}
 use native.Mathlib.Omega.{arith}
 use borrow.Author.Tests.{lt-ltb, le-ltb}

@@ -1,3 +1,4 @@
+-- The first byte names the variant; the calls follow.
 use mathlib.Core.Path.{sym, ap, _∙_}
 use Prim.Native.Nat.{ℕ, _-_}
 use lib.ListN.{length}

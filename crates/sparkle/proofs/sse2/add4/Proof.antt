@@ -1,5 +1,4 @@
 -- `add4` adds lane by lane, by what the four sums ensure.
-use mathlib.Core.Path.{refl}
 use borrow.Author.Needs.{needs}
 use Rattle.sparkle.specs.Words.{addw}
 use Rattle.sparkle.specs.Lanes.{lanes2}

@@ -1,9 +1,5 @@
 -- `ell4` is ell in each lane.
-use mathlib.Core.Path.{ap, ap₂, _∙_}
-use Prim.Native.Nat.{_/_, _^_}
-use lib.Bits.{bitXor}
 use borrow.Author.Needs.{needs}
-use Rattle.sparkle.specs.Lanes.{lanes, lanes2}
 use Rattle.sparkle.proofs.LaneLaws.{ell-lanes}
 use Rattle.sparkle.proofs.Bounds.{words-at}
 use Rattle.sparkle.proofs.Arrays.{array-words}

@@ -1,8 +1,7 @@
 -- `last4` is the last quarter in each lane.
-use mathlib.Core.Path.{_≡_, ap, ap₂, _∙_}
+use mathlib.Core.Path.{ap, ap₂, _∙_}
 use mathlib.Core.List.{List}
 use Prim.Native.Nat.{ℕ, _/_, _^_}
-use native.Mathlib.Omega.{arith}
 use lib.Bits.{bitXor, bitAnd, bitOr}
 use lib.Dec.{lit<}
 use borrow.Author.Needs.{needs}

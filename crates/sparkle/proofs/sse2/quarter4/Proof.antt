@@ -1,5 +1,5 @@
 -- `quarter4` is a quarter in each lane: the sum first, then each of the three words.
-use mathlib.Core.Path.{_≡_, ap, ap₂, _∙_}
+use mathlib.Core.Path.{ap, ap₂, _∙_}
 use mathlib.Core.List.{List}
 use Prim.Native.Nat.{ℕ, _/_, _%_, _^_, _-_}
 use native.Mathlib.Omega.{arith}

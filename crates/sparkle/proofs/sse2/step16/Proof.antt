@@ -1,12 +1,11 @@
 -- `step16` is a step on the state that the groups hold: the parts as lanes, put together by `step-lanes`.
 use mathlib.Core.Path.{ap, ap₂, _∙_}
-use mathlib.Core.List.{List, [], _∷_}
+use mathlib.Core.List.{[], _∷_}
 use Prim.Native.Nat.{ℕ}
 use lib.Bits.{bitXor}
 use borrow.Author.Needs.{needs}
-use Rattle.sparkle.specs.Words.{ell}
 use Rattle.sparkle.specs.Sparkle.{rcon}
-use Rattle.sparkle.specs.Lanes.{lanes, lanes2, shuffled, folded, joined}
+use Rattle.sparkle.specs.Lanes.{lanes2, shuffled, joined}
 use Rattle.sparkle.proofs.LaneLaws.{above-refl, step-lanes}
 use Rattle.sparkle.proofs.sse2.step16.Statement.{statement}
 use Rattle.sparkle.proofs.sse2.step16.Tie as tie

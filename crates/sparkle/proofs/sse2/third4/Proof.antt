@@ -1,11 +1,10 @@
 -- `third4` is the third quarter in each lane.
-use mathlib.Core.Path.{_≡_, ap, ap₂, _∙_}
+use mathlib.Core.Path.{ap, ap₂, _∙_}
 use mathlib.Core.List.{List}
 use Prim.Native.Nat.{ℕ, _/_, _^_}
-use native.Mathlib.Omega.{arith}
 use lib.Bits.{bitXor}
 use borrow.Author.Needs.{needs}
-use Rattle.sparkle.specs.Words.{addw, shlw}
+use Rattle.sparkle.specs.Words.{shlw}
 use Rattle.sparkle.specs.Lanes.{lanes, lanes2}
 use Rattle.sparkle.proofs.LaneLaws.{third-sum, third-y, third-above, quarter-x}
 use Rattle.sparkle.proofs.sse2.third4.Statement.{statement}
