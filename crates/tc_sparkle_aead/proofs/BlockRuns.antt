@@ -89,8 +89,7 @@ module _ (p : Params) (step : List ℕ → List ℕ → List ℕ) (words t : Lis
                 (cc (e, rest, r .state, r .position, run-state));
           }
 
--- n bytes of the stream, gathered in an array of which 32 bytes are looked at; and those of a stream whose held bytes
--- are all before them
+-- n bytes of the stream, gathered in an array of which 32 bytes are looked at
 pub gathered : (t block words : List ℕ) (pos n : ℕ) → n ≤ 32 → pos + n ≤ length t → block ≡ inArray 64 (take n (drop pos t))
     → words ≡ take 32 block → take n words ≡ take n (drop pos t)
 gathered t block words pos n small fits e f =
@@ -98,13 +97,19 @@ gathered t block words pos n small fits e f =
     ap (take n) f ∙ take-take n 32 block small ∙ ap (take n) e
     ∙ all-inArray n 64 (take n (drop pos t)) (length-take-le n (drop pos t) enough) (omega arith)
 
+-- past the held bytes the stream is the input
+pub past-held : (buffer input : List ℕ) (held pos : ℕ) → length buffer ≡ 64 → held ≤ 64 → held ≤ pos
+    → drop (pos - held) input ≡ drop pos (take held buffer ++ input)
+past-held buffer input held pos hb hh gone =
+    let h = length-take-le held buffer (omega arith) in
+    let at : length (take held buffer) + (pos - held) ≡ pos = omega arith in
+    sym (drop-append-add (take held buffer) input (pos - held)) ∙ ap (λ (k : ℕ). drop k (take held buffer ++ input)) at
+
 pub from-input : (buffer input words : List ℕ) (held pos n : ℕ) → length buffer ≡ 64 → held ≤ 64 → n ≤ 32 → held ≤ pos
     → words ≡ take 32 (drop (pos - held) input) → take n words ≡ take n (drop pos (take held buffer ++ input))
 from-input buffer input words held pos n hb hh small gone e =
-    let h = length-take-le held buffer (omega arith) in
-    let at : length (take held buffer) + (pos - held) ≡ pos = omega arith in
     ap (take n) e ∙ take-take n 32 (drop (pos - held) input) small
-    ∙ ap (take n) (sym (drop-append-add (take held buffer) input (pos - held)) ∙ ap (λ (k : ℕ). drop k (take held buffer ++ input)) at)
+    ∙ ap (take n) (past-held buffer input held pos hb hh gone)
 
 -- held bytes and input are long enough where the sum of their lengths is
 pub length-stream : (buffer input : List ℕ) (held n : ℕ) → length buffer ≡ 64 → held ≤ 64 → n ≤ held + length input

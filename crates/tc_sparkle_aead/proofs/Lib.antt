@@ -10,7 +10,7 @@ pub mod MixLaws
 pub mod BlockRuns
 pub mod LastBlock
 pub mod StartLaws
-pub mod TagFill
+pub mod TagLaws
 pub mod CallLaws
 pub mod HeaderLaws
 pub mod StartCheckLaws

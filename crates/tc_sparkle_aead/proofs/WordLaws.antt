@@ -1,13 +1,13 @@
 -- A word of a list of bytes, from its four bytes; eight words of a list of bytes; and the four bytes of a word, laid one
--- after another over a list.
-use mathlib.Core.Path.{_≡_, refl, sym, ap, _∙_}
-use mathlib.Core.List.{List, [], _∷_}
+-- after another over a list, which they may cover.
+use mathlib.Core.Path.{_≡_, refl, sym, ap, ap₂, _∙_}
+use mathlib.Core.List.{List, [], _∷_, _++_, append-nil}
 use Prim.Native.Nat.{ℕ, _+_, _*_, _/_, _%_, _^_, _≤_, _<_}
-use native.Mathlib.Nat.{add-zero}
+use native.Mathlib.Nat.{add-zero, zero-add}
 use native.Mathlib.Numerals.{add-one}
 use native.Mathlib.Omega.{arith}
-use lib.ListN.{length, take, drop, getD, set, length-drop}
-use lib.Seq.{getD-drop, getD-take, length-take-le, paste, paste-suc}
+use lib.ListN.{length, take, drop, getD, set, length-drop, drop-of-length-le}
+use lib.Seq.{getD-drop, getD-take, length-take-le, take-all, paste, paste-suc}
 use Rattle.schwaemm.specs.Bytes.{toWords, toBytes}
 use Rattle.schwaemm.proofs.ByteWords.{length-toWords, length-toBytes, toWords-take, toWords-drop, toBytes-at}
 
@@ -75,3 +75,10 @@ paste-word d w at k e l h =
     (omega arith) (word-byte w k 2 (k * 4 + 1 + 1) (omega arith) (omega arith)) (omega arith) (omega arith))
     (omega arith) (word-byte w k 3 (k * 4 + 1 + 1 + 1) (omega arith) (omega arith)) (omega arith) (omega arith)
     ∙ ap (paste d at s) end
+
+-- a list laid over another of its length
+pub paste-all : (d s : List ℕ) (n : ℕ) → length d ≡ n → length s ≡ n → paste d 0 s n ≡ s
+paste-all d s n hd hs =
+    ap₂ (λ (a b : List ℕ). a ++ b) (take-all n s (omega arith))
+    (ap (λ (k : ℕ). drop k d) (zero-add n) ∙ drop-of-length-le d {i = n} (omega arith))
+    ∙ append-nil s

@@ -18,9 +18,9 @@ use sparkle::scalar::StateWords;
 // ---- bytes
 
 // A byte of the held ones followed by the input.
-fn byte_at(buffer: [u8; 64], held: usize, input: &[u8], at: usize) -> u8
-    requires { ⌜ (held ≤ 64) × (at < held + length (now input)) ⌝ }
-    ensures { λ r. ⌜ r ≡ getD (take held buffer ++ now (input .entry)) at 0 ⌝ }
+fn byte_at(buffer: &[u8], held: usize, input: &[u8], at: usize) -> u8
+    requires { ⌜ (held ≤ length (now buffer)) × (at < held + length (now input)) ⌝ }
+    ensures { λ r. ⌜ r ≡ getD (take held (now (buffer .entry)) ++ now (input .entry)) at 0 ⌝ }
 {
     if at < held {
         buffer[at]
@@ -29,15 +29,32 @@ fn byte_at(buffer: [u8; 64], held: usize, input: &[u8], at: usize) -> u8
     }
 }
 
-// n of these bytes, from `pos` on.
-pub(crate) fn gather(buffer: [u8; 64], held: usize, input: &[u8], pos: usize, n: usize) -> [u8; 64]
-    requires { ⌜ (held ≤ 64) × (n ≤ 64) × (pos + n ≤ held + length (now input)) ⌝ }
-    ensures { λ r. ⌜ r ≡ inArray 64 (take n (drop pos (take held buffer ++ now (input .entry)))) ⌝ }
+// n bytes of a slice from `at` on, with zeros behind them.
+fn part(bytes: &[u8], at: usize, n: usize) -> [u8; 64]
+    requires { ⌜ (n ≤ 64) × (at + n ≤ length (now bytes)) ⌝ }
+    ensures { λ r. ⌜ r ≡ inArray 64 (take n (drop at (now (bytes .entry)))) ⌝ }
 {
     let mut r = [0u8; 64];
     let mut i = 0;
     while i < n {
-        r[i] = byte_at(buffer, held, input, pos + i);
+        r[i] = bytes[at + i];
+        i += 1;
+    }
+    r
+}
+
+// n bytes of the held ones followed by the input, from `pos` on.
+pub(crate) fn gather(buffer: [u8; 64], held: usize, input: &[u8], pos: usize, n: usize) -> [u8; 64]
+    requires { ⌜ (held ≤ 64) × (n ≤ 64) × (pos + n ≤ held + length (now input)) ⌝ }
+    ensures { λ r. ⌜ r ≡ inArray 64 (take n (drop pos (take held buffer ++ now (input .entry)))) ⌝ }
+{
+    if held <= pos {
+        return part(input, pos - held, n);
+    }
+    let mut r = [0u8; 64];
+    let mut i = 0;
+    while i < n {
+        r[i] = byte_at(&buffer, held, input, pos + i);
         i += 1;
     }
     r
@@ -70,9 +87,9 @@ pub(crate) fn put(output: &mut [u8], pos: usize, bytes: [u8; 64], n: usize)
 }
 
 // n words written to the output from `pos` on, the low byte first.
-fn put_words(output: &mut [u8], pos: usize, words: [u32; 8], n: usize)
-    requires { ⌜ (n ≤ 8) × (pos + n * 4 ≤ length (now output)) ⌝ }
-    ensures { λ _. ⌜ now (output .exit) ≡ paste (now (output .entry)) pos (toBytes words) (n * 4) ⌝ }
+fn put_words(output: &mut [u8], pos: usize, words: &[u32], n: usize)
+    requires { ⌜ (n ≤ length (now words)) × (pos + n * 4 ≤ length (now output)) ⌝ }
+    ensures { λ _. ⌜ now (output .exit) ≡ paste (now (output .entry)) pos (toBytes (now (words .entry))) (n * 4) ⌝ }
 {
     let mut k = 0;
     while k < n {
@@ -92,10 +109,10 @@ fn store(variant: SparkleVariant, output: &mut [u8], pos: usize, words: [u32; 8]
     ensures { λ _. ⌜ now (output .exit) ≡ paste (now (output .entry)) pos (toBytes words) (paramsOf variant .rate) ⌝ }
 {
     match variant {
-        SparkleVariant::Schwaemm128_128 => put_words(output, pos, words, 4),
-        SparkleVariant::Schwaemm256_128 => put_words(output, pos, words, 8),
-        SparkleVariant::Schwaemm192_192 => put_words(output, pos, words, 6),
-        SparkleVariant::Schwaemm256_256 => put_words(output, pos, words, 8),
+        SparkleVariant::Schwaemm128_128 => put_words(output, pos, &words, 4),
+        SparkleVariant::Schwaemm256_128 => put_words(output, pos, &words, 8),
+        SparkleVariant::Schwaemm192_192 => put_words(output, pos, &words, 6),
+        SparkleVariant::Schwaemm256_256 => put_words(output, pos, &words, 8),
     }
 }
 
@@ -172,17 +189,16 @@ fn words_in(bytes: &[u8], at: usize) -> [u32; 8]
     r
 }
 
-// The words of an array of bytes.
-fn words_of(bytes: [u8; 64]) -> [u32; 16]
-    ensures { λ r. ⌜ r ≡ toWords bytes ⌝ }
+// Word k of the nonce followed by the key; the nonce has n words.
+fn start_word(nonce: &[u8], key: &[u8], n: usize, k: usize) -> u32
+    requires { ⌜ (n * 4 ≡ length (now nonce)) × (k * 4 + 3 < n * 4 + length (now key)) ⌝ }
+    ensures { λ r. ⌜ r ≡ getD (toWords (now (nonce .entry) ++ now (key .entry))) k 0 ⌝ }
 {
-    let mut r = [0u32; 16];
-    let mut k = 0;
-    while k < 16 {
-        r[k] = word_in(&bytes, 0, k);
-        k += 1;
+    if k < n {
+        word_in(nonce, 0, k)
+    } else {
+        word_in(key, 0, k - n)
     }
-    r
 }
 
 // Words that begin with n bytes of the held ones followed by the input, from `pos` on.
@@ -200,14 +216,13 @@ fn load(buffer: [u8; 64], held: usize, input: &[u8], pos: usize, n: usize) -> [u
     words_in(&bytes, 0)
 }
 
-// Byte i of an array of words, little-endian.
-fn state_byte(words: [u32; 16], i: usize) -> u8
-    requires { ⌜ i < 64 ⌝ }
-    ensures { λ r. ⌜ r ≡ getD (toBytes words) i 0 ⌝ }
+// The bytes of an array of words, little-endian.
+fn bytes_of(words: [u32; 16]) -> [u8; 64]
+    ensures { λ r. ⌜ r ≡ toBytes words ⌝ }
 {
-    let w = words[i / 4];
-    let shift = (i % 4) as u32 * 8;
-    ((w >> shift) % 256) as u8
+    let mut r = [0u8; 64];
+    put_words(&mut r, 0, &words, 16);
+    r
 }
 
 // ---- the state
@@ -326,10 +341,11 @@ pub(crate) fn crypt(
     requires { ⌜ n ≤ paramsOf variant .rate ⌝ }
     ensures { λ r. ⌜ r ≡ inArray 64 (crypt (paramsOf variant) (stateIn (paramsOf variant) words) (take n block)) ⌝ }
 {
+    let state = bytes_of(words);
     let mut r = [0u8; 64];
     let mut i = 0;
     while i < n {
-        r[i] = state_byte(words, i) ^ block[i];
+        r[i] = state[i] ^ block[i];
         i += 1;
     }
     r
@@ -437,12 +453,7 @@ fn pad(variant: SparkleVariant, buffer: [u8; 64], n: usize) -> [u8; 64]
     requires { ⌜ n ≤ paramsOf variant .rate ⌝ }
     ensures { λ r. ⌜ r ≡ inArray 64 (padded (paramsOf variant) (take n buffer)) ⌝ }
 {
-    let mut r = [0u8; 64];
-    let mut i = 0;
-    while i < n {
-        r[i] = buffer[i];
-        i += 1;
-    }
+    let mut r = part(&buffer, 0, n);
     if n < variant.nonce_bytes() {
         r[n] = 0x80;
     }
@@ -503,10 +514,15 @@ pub(crate) fn initialise(variant: SparkleVariant, key: &[u8], nonce: &[u8]) -> [
     requires { ⌜ (length (now key) ≡ paramsOf variant .key) × (length (now nonce) ≡ paramsOf variant .rate) ⌝ }
     ensures { λ r. ⌜ r ≡ inArray 16 (initialise (paramsOf variant) (now (key .entry)) (now (nonce .entry))) ⌝ }
 {
-    let rate = variant.nonce_bytes();
-    let first = gather([0u8; 64], 0, nonce, 0, rate);
-    let bytes = gather(first, rate, key, 0, rate + variant.key_bytes());
-    permute(variant, words_of(bytes), variant.big_steps())
+    let n = variant.nonce_bytes() / 4;
+    let count = n + variant.key_bytes() / 4;
+    let mut v = [0u32; 16];
+    let mut k = 0;
+    while k < count {
+        v[k] = start_word(nonce, key, n, k);
+        k += 1;
+    }
+    permute(variant, v, variant.big_steps())
 }
 
 // The tag: the key xored into the capacity.
@@ -515,10 +531,11 @@ pub(crate) fn make_tag(variant: SparkleVariant, words: [u32; 16], key: [u8; 32])
 {
     let rate = variant.nonce_bytes();
     let n = variant.key_bytes();
+    let state = bytes_of(words);
     let mut r = [0u8; 32];
     let mut i = 0;
     while i < n {
-        r[i] = state_byte(words, rate + i) ^ key[i];
+        r[i] = state[rate + i] ^ key[i];
         i += 1;
     }
     r

@@ -11,20 +11,20 @@ use Rattle.tc_sparkle_aead.proofs.blocks.byte_at.Statement.{statement}
 use Rattle.tc_sparkle_aead.proofs.blocks.byte_at.Tie as tie
 
 -- the held bytes are as many as `held` says
-held-length : (s : tie.Start) → length (take (s .args .held) (s .args .t1)) ≡ s .args .held
-held-length s = length-take-le (s .args .held) (s .args .t1) (omega (arith, s .good .0 .1 .0 .1))
+held-length : (s : tie.Start) → length (take (s .args .held) (s .args .buffer .now)) ≡ s .args .held
+held-length s = length-take-le (s .args .held) (s .args .buffer .now) (omega arith)
 
 returns : tie.Need-returns
 returns c =
-    let s = c .before in
+    let s = c .before .before in
     let h = held-length s in
-    sym (List·getD-append (take (s .args .held) (s .args .t1)) (s .args .input .now) 0 (s .args .at) (omega arith)
-    ∙ getD-take (s .args .held) (s .args .t1) (s .args .at) 0 (c .if1 .taken))
+    sym (List·getD-append (take (s .args .held) (s .args .buffer .now)) (s .args .input .now) 0 (s .args .at) (omega arith)
+    ∙ getD-take (s .args .held) (s .args .buffer .now) (s .args .at) 0 (c .before .if1 .taken))
 
 returns-2 : tie.Need-returns-2
 returns-2 c =
     let s = c .before .before in
-    let front = take (s .args .held) (s .args .t1) in
+    let front = take (s .args .held) (s .args .buffer .now) in
     let h = held-length s in
     let e : s .args .at ≡ length front + (s .args .at - s .args .held) = omega arith in
     sym (ap (λ (k : ℕ). getD (front ++ s .args .input .now) k 0) e

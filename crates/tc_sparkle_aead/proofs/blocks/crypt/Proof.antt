@@ -1,14 +1,14 @@
 -- `crypt` is the state's bytes xored with the block's: the loop lays them over zeros.
-use mathlib.Core.Path.{_≡_, refl, sym, ap, ap₂, _∙_}
-use Prim.Native.Nat.{_≤_, _-_}
+use mathlib.Core.Path.{_≡_, refl, sym, ap, _∙_}
+use mathlib.Core.List.{List}
+use Prim.Native.Nat.{ℕ, _≤_, _-_}
 use native.Mathlib.Omega.{arith}
 use lib.Bits.{bitXor}
-use lib.ListN.{length, take, length-take}
+use lib.ListN.{length, take, getD, length-take}
 use lib.Seq.{getD-take}
+use borrow.Author.Needs.{needs}
 use Rattle.sparkle.specs.Sparkle.{xors}
 use Rattle.sparkle.proofs.Lengths.{length-xors}
-use Rattle.schwaemm.specs.Bytes.{toBytes}
-use Rattle.schwaemm.proofs.ByteWords.{length-toBytes}
 use Rattle.schwaemm.proofs.Xors.{xors-at}
 use Rattle.tc_sparkle_aead.specs.Variant.{paramsOf}
 use Rattle.tc_sparkle_aead.specs.Engine.{zeros, inArray}
@@ -19,46 +19,50 @@ use Rattle.tc_sparkle_aead.proofs.blocks.crypt.Statement.{statement}
 use Rattle.tc_sparkle_aead.proofs.blocks.crypt.Tie as tie
 
 abbrev Inv-loop : tie.InvT-loop
-Inv-loop words n block r₀ i₀ r i = ((i ≤ n) × (n ≤ 32)) × (r ≡ laid (xors (toBytes words) (take n block)) (zeros 64) i)
+Inv-loop n block state r₀ i₀ r i =
+    (i ≤ n) × (n ≤ 32) × (length (xors state (take n block)) ≡ n) × (r ≡ laid (xors state (take n block)) (zeros 64) i)
 
 abbrev μ-loop : tie.MeasureT-loop
-μ-loop words n block r₀ i₀ r i = n - i
-
--- as many bytes are there as are asked for
-crypted-length : (s : tie.Start Inv-loop μ-loop) → length (xors (toBytes (s .args .words)) (take (s .args .n) (s .args .t3))) ≡ s .args .n
-crypted-length s =
-    let b = small (s .args .variant) .rate in
-    simp (length-xors, length-toBytes, length-take)
-    (omega (arith, s .good .1 .0 .1 .0 .1, s .good .1 .1 .0 .1 .0 .1))
+μ-loop n block state r₀ i₀ r i = n - i
 
 loop-holds : tie.Need-loop-holds Inv-loop μ-loop
 unfolding zeros laid
-loop-holds c = (omega (arith, small (c .args .variant) .rate), refl)
+loop-holds c =
+    let s = c .before in
+    let b = small (s .args .variant) .rate in
+    let held = length-take (s .args .n) (s .args .t3) in
+    let hs : length (c .bytes-of .result) ≡ 64 = c .bytes-of .ok .1 .0 .1 in (
+      omega arith,
+      omega arith,
+      simp (length-xors, length-take) (omega (arith, s .good .1 .1 .0 .1 .0 .1)),
+      refl,
+    )
 
 loop-again : tie.Need-loop-again Inv-loop μ-loop
 loop-again c =
     let s = c .before .before .before in
-    let i = c .before .before .loop .i in
-    let u = toBytes (s .args .words) in
+    let i = c .before .loop .i in
+    let u = c .before .before .bytes-of .result in
     let v = take (s .args .n) (s .args .t3) in
-    let l = crypted-length s in
+    let l = c .before .loop .inv .2 in
     let m = length-xors u v in (
       omega arith,
-      fill-turn 64 (xors u v) (c .before .before .loop .inv .1)
-          (ap₂ bitXor (c .state-byte .ensures) (sym (getD-take (s .args .n) (s .args .t3) i 0 (omega arith)))
+      omega arith,
+      l,
+      fill-turn 64 (xors u v) (c .before .loop .inv .3)
+          (ap (bitXor (getD u i 0)) (sym (getD-take (s .args .n) (s .args .t3) i 0 (omega arith)))
           ∙ sym (xors-at u v i (omega arith) (omega arith)))
           (omega arith) (omega arith),
     )
 
 returns : tie.Need-returns Inv-loop μ-loop
 returns c =
-    let s = c .before .before in
-    let u = toBytes (s .args .words) in
+    let s = c .before .before .before in
     let v = take (s .args .n) (s .args .t3) in
-    let b = small (s .args .variant) in
-    fill-end 64 (xors u v) (c .before .loop .inv .1) (omega (arith, crypted-length s)) (omega arith)
+    fill-end 64 _ (c .before .loop .inv .3) (omega arith) (omega arith)
     ∙ ap (inArray 64)
-    (sym (crypt-in (paramsOf (s .args .variant)) (sizes (s .args .variant)) (s .args .words) v
+    (ap (λ (u : List ℕ). xors u v) (c .before .before .bytes-of .ensures)
+    ∙ sym (crypt-in (paramsOf (s .args .variant)) (sizes (s .args .variant)) (s .args .words) v
     (omega (arith, length-take (s .args .n) (s .args .t3)))))
 
 pub crypt-spec : {M : Type 1} → statement M
@@ -67,8 +71,9 @@ crypt-spec =
     (tie.spec
     Inv-loop
     μ-loop
+    (λ c κs. search needs)
     loop-holds
-    (λ c κs. omega arith)
+    (λ c. omega arith)
     (λ c. omega arith)
     (λ c. omega arith)
     (λ c. omega arith)

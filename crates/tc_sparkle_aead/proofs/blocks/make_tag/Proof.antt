@@ -1,57 +1,57 @@
--- `make_tag` meets its contract: the invariant is that the first i bytes of the tag are stored.
-use mathlib.Core.Path.{ap, _∙_}
-use Prim.Native.Nat.{_-_}
+-- `make_tag` is the capacity's bytes xored with the key's: the loop lays them over zeros.
+use mathlib.Core.Path.{_≡_, refl, ap, _∙_}
+use Prim.Native.Nat.{_+_, _≤_, _-_}
 use native.Mathlib.Omega.{arith}
+use lib.ListN.{length}
 use Rattle.tc_sparkle_aead.specs.Variant.{paramsOf}
-use Rattle.tc_sparkle_aead.specs.Engine.{inArray}
+use Rattle.tc_sparkle_aead.specs.Engine.{zeros, inArray}
 use Rattle.tc_sparkle_aead.proofs.VariantLaws.{sizes, small}
-use Rattle.tc_sparkle_aead.proofs.TagFill.{Tagged, array-bytes, tag-start, tag-turn, tag-end, tagOf-bytes}
+use Rattle.tc_sparkle_aead.proofs.Fill.{laid, fill-turn, fill-end}
+use Rattle.tc_sparkle_aead.proofs.TagLaws.{tagBytes, array-bytes, length-tagBytes, tagBytes-at, tagOf-bytes}
 use Rattle.tc_sparkle_aead.proofs.blocks.make_tag.Statement.{statement}
 use Rattle.tc_sparkle_aead.proofs.blocks.make_tag.Tie as tie
 
 abbrev Inv-loop : tie.InvT-loop
-Inv-loop words key rate n r₀ i₀ r i = Tagged words key rate n r i
+Inv-loop key rate n state r₀ i₀ r i =
+    (i ≤ n) × (rate + n ≤ 64) × (n ≤ 32) × (r ≡ laid (tagBytes state key rate n) (zeros 32) i)
 
 abbrev μ-loop : tie.MeasureT-loop
-μ-loop words key rate n r₀ i₀ r i = n - i
+μ-loop key rate n state r₀ i₀ r i = n - i
 
 loop-holds : tie.Need-loop-holds Inv-loop μ-loop
-loop-holds c = tag-start _ _ _ _
-
-add-state-byte : tie.Need-add-state-byte Inv-loop μ-loop
-add-state-byte c = omega (arith, small (c .before .before .before .before .args .variant))
-
-state-byte-requires : tie.Need-state-byte-requires Inv-loop μ-loop
-state-byte-requires c κs = omega (arith, small (c .before .before .before .before .args .variant))
-
-array-read-r : tie.Need-array-read-r Inv-loop μ-loop
-array-read-r c = omega (arith, small (c .before .before .before .before .before .args .variant))
-
-array-write-r : tie.Need-array-write-r Inv-loop μ-loop
-array-write-r c = omega (arith, small (c .before .before .before .before .before .args .variant))
-
-add-i : tie.Need-add-i Inv-loop μ-loop
-add-i c = omega (arith, small (c .before .before .before .before .before .args .variant))
+unfolding zeros laid
+loop-holds c = (omega arith, omega (arith, small (c .before .before .before .args .variant)), omega (arith, small (c .before .before .before .args .variant)), refl)
 
 loop-again : tie.Need-loop-again Inv-loop μ-loop
 loop-again c =
     let s = c .before .before .before .before .before in
-    let f = small (s .args .variant) in
-    tag-turn (s .args .words) (s .args .t3) _ _ (s .good .1 .0 .1 .0 .1) (s .good .1 .1 .0 .1 .0 .1) (omega arith) (omega arith)
-    (c .before .before .loop .inv) (c .before .loop-test .taken) _ (c .state-byte .ensures)
+    let i = c .before .loop .i in
+    let state = c .before .before .bytes-of in
+    let inv = c .before .loop .inv in
+    let hs : length (state .result) ≡ 64 = state .ok .1 .0 .1 in
+    let l = length-tagBytes (state .result) (s .args .t3) _ _ hs (s .good .1 .1 .0 .1 .0 .1) (inv .1) (inv .2) in (
+      omega arith,
+      inv .1,
+      inv .2,
+      fill-turn 32 _ (inv .3)
+          (tagBytes-at (state .result) (s .args .t3) _ _ hs (s .good .1 .1 .0 .1 .0 .1) (inv .1) (inv .2) i (omega arith))
+          (omega arith) (omega arith),
+    )
 
 returns : tie.Need-returns Inv-loop μ-loop
 returns c =
-    let s = c .before .before .before .before in
+    let s = c .before .before .before .before .before in
     let v = s .args .variant in
-    let f = small v in
-    let words = s .args .words in
     let key = s .args .t3 in
+    let state = c .before .before .bytes-of in
+    let inv = c .before .loop .inv in
     let hw = s .good .1 .0 .1 .0 .1 in
     let hk = s .good .1 .1 .0 .1 .0 .1 in
-    tag-end words key _ _ hw hk (omega arith) (omega arith) (c .before .loop .inv) (c .loop-test .left)
-    ∙ rw (c .before .before .before .nonce-bytes .ensures, c .before .before .key-bytes .ensures)
-    (ap (inArray 32) (tagOf-bytes (paramsOf v) (sizes v) f words key hw hk (array-bytes key _ (s .good .1 .1 .0 .1 .1))))
+    let hs : length (state .result) ≡ 64 = state .ok .1 .0 .1 in
+    let l = length-tagBytes (state .result) key _ _ hs hk (inv .1) (inv .2) in
+    fill-end 32 _ (inv .3) (omega arith) (omega arith)
+    ∙ rw (state .ensures, c .before .before .before .before .nonce-bytes .ensures, c .before .before .before .key-bytes .ensures)
+    (ap (inArray 32) (tagOf-bytes (paramsOf v) (sizes v) (small v) (s .args .words) key hw hk (array-bytes key _ (s .good .1 .1 .0 .1 .1))))
 
 pub make-tag-spec : {M : Type 1} → statement M
 make-tag-spec =
@@ -61,12 +61,13 @@ make-tag-spec =
     μ-loop
     (λ c κs. tt)
     (λ c κs. tt)
+    (λ c κs. tt)
     loop-holds
-    add-state-byte
-    state-byte-requires
-    array-read-r
-    array-write-r
-    add-i
+    (λ c. omega arith)
+    (λ c. omega arith)
+    (λ c. omega arith)
+    (λ c. omega arith)
+    (λ c. omega arith)
     (λ c. omega arith)
     loop-again
     returns)
