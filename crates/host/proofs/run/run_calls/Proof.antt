@@ -1,12 +1,14 @@
 -- The loop keeps `Walking`: each turn is `walk-turn`, each way out one of `walk-end`, `walk-malformed`, `walk-no-room`.
 use mathlib.Core.Path.{_≡_, sym, ap, ap₂, _∙_}
 use mathlib.Core.Bool.{true}
+use mathlib.Core.List.{List}
 use Prim.Native.Nat.{ℕ, _+_, _-_, _≤_, _<_}
 use native.Mathlib.Omega.{arith}
 use borrow.Author.Needs.{needs}
 use borrow.Author.Tests.{leb-true, not-true, not-false}
 use lib.Dec.{leb}
 use lib.ListN.{length, drop, length-take, length-drop}
+use Rattle.host.specs.declared.call.Head.{Head}
 use Rattle.host.specs.declared.call.Read.the-variants.{Call}
 use Rattle.host.specs.CallList.{readOf, runCalls, shownLength}
 use Rattle.host.proofs.RunLaws.{Walking, from-place, walk-start, walk-end, walk-malformed, walk-no-room, walk-code, call-within}
@@ -73,221 +75,121 @@ returns-2 c =
     (sym (c .before .before .before .before .read .given .1) ∙ c .before .before .before .before .before .before .read-call .ensures ∙ ap readOf (from-place (a .list .now) (l .at)))
     (sym (c .before .fits2 .ensures ∙ ap₂ (λ (n m : ℕ). leb (34 + n) (m - l .used)) (c .before .before .shown-len .ensures) (l .inv .size)) ∙ not-true _ (c .if1 .taken))
 
+-- What holds from the test for room on, where there is room: the call `h` that was read, and the room for its answer.
+module _ (t : tie.Else1 Inv-loop μ-loop) where
+  abbrev list : List ℕ
+  list = t .before .before .before .before .before .before .before .before .before .before .before .before .args .list .now
+
+  abbrev room-at-first : ℕ
+  room-at-first = length (t .before .before .before .before .before .before .before .before .before .before .before .before .args .answers .now)
+
+  abbrev at : ℕ
+  at = t .before .before .before .before .before .before .before .before .before .loop .at
+
+  abbrev used : ℕ
+  used = t .before .before .before .before .before .before .before .before .before .loop .used
+
+  abbrev h : Head
+  h = t .before .before .before .before .read .given .0 .0
+
+  is : Call h ≡ readOf (drop at list)
+  is = sym (t .before .before .before .before .read .given .1) ∙ t .before .before .before .before .before .before .read-call .ensures ∙ ap readOf (from-place list at)
+
+  more : at < length list
+  more = t .before .before .before .before .before .before .before .before .loop-test .taken
+
+  within : 33 + h .first + h .second + h .third ≤ length list - at
+  within = call-within _ _ _ _ _ _ _ (t .before .before .before .before .before .before .before .before .before .loop .inv) more h is
+
+  fits : leb (34 + shownLength h) (room-at-first - used) ≡ true
+  fits =
+      sym (t .before .fits2 .ensures ∙ ap₂ (λ (k m : ℕ). leb (34 + k) (m - used)) (t .before .before .shown-len .ensures) (t .before .before .before .before .before .before .before .before .before .loop .inv .size))
+      ∙ not-false _ (t .if1 .left)
+
+  room : 34 + shownLength h ≤ room-at-first - used
+  room = leb-true _ _ fits
+
 add-from : tie.Need-add-from Inv-loop μ-loop
 add-from c =
     let l = c .before .before .before .before .before .before .before .before .before .loop in
-    let a = c .before .before .before .before .before .before .before .before .before .before .before .before .args in
-    let h = c .before .before .before .before .read .given .0 .0 in
-    let is : Call h ≡ readOf (drop (l .at) (a .list .now)) =
-    sym (c .before .before .before .before .read .given .1) ∙ c .before .before .before .before .before .before .read-call .ensures ∙ ap readOf (from-place (a .list .now) (l .at)) in
-    let more : l .at < length (a .list .now) = c .before .before .before .before .before .before .before .before .loop-test .taken in
-    let within = call-within _ _ _ _ _ _ _ (l .inv) more h is in
-    let size = c .before .before .shown-len .ensures in
-    let fits : leb (34 + shownLength h) (length (a .answers .now) - l .used) ≡ true =
-    sym (c .before .fits2 .ensures ∙ ap₂ (λ (k m : ℕ). leb (34 + k) (m - l .used)) size (l .inv .size)) ∙ not-false _ (c .if1 .left) in
-    let room : 34 + shownLength h ≤ length (a .answers .now) - l .used = leb-true _ _ fits in
-    omega (arith, within, room, l .inv .size, l .inv .room)
+    omega (arith, within c, room c, l .inv .size, l .inv .room)
 
 sub-answer : tie.Need-sub-answer Inv-loop μ-loop
 sub-answer c =
     let l = c .before .before .before .before .before .before .before .before .before .loop in
-    let a = c .before .before .before .before .before .before .before .before .before .before .before .before .args in
-    let h = c .before .before .before .before .read .given .0 .0 in
-    let is : Call h ≡ readOf (drop (l .at) (a .list .now)) =
-    sym (c .before .before .before .before .read .given .1) ∙ c .before .before .before .before .before .before .read-call .ensures ∙ ap readOf (from-place (a .list .now) (l .at)) in
-    let more : l .at < length (a .list .now) = c .before .before .before .before .before .before .before .before .loop-test .taken in
-    let within = call-within _ _ _ _ _ _ _ (l .inv) more h is in
-    let size = c .before .before .shown-len .ensures in
-    let fits : leb (34 + shownLength h) (length (a .answers .now) - l .used) ≡ true =
-    sym (c .before .fits2 .ensures ∙ ap₂ (λ (k m : ℕ). leb (34 + k) (m - l .used)) size (l .inv .size)) ∙ not-false _ (c .if1 .left) in
-    let room : 34 + shownLength h ≤ length (a .answers .now) - l .used = leb-true _ _ fits in
-    omega (arith, within, room, l .inv .size, l .inv .room)
+    omega (arith, within c, room c, l .inv .size, l .inv .room)
 
 part-answer-start : tie.Need-part-answer-start Inv-loop μ-loop
 part-answer-start c =
     let l = c .before .before .before .before .before .before .before .before .before .loop in
-    let a = c .before .before .before .before .before .before .before .before .before .before .before .before .args in
-    let h = c .before .before .before .before .read .given .0 .0 in
-    let is : Call h ≡ readOf (drop (l .at) (a .list .now)) =
-    sym (c .before .before .before .before .read .given .1) ∙ c .before .before .before .before .before .before .read-call .ensures ∙ ap readOf (from-place (a .list .now) (l .at)) in
-    let more : l .at < length (a .list .now) = c .before .before .before .before .before .before .before .before .loop-test .taken in
-    let within = call-within _ _ _ _ _ _ _ (l .inv) more h is in
-    let size = c .before .before .shown-len .ensures in
-    let fits : leb (34 + shownLength h) (length (a .answers .now) - l .used) ≡ true =
-    sym (c .before .fits2 .ensures ∙ ap₂ (λ (k m : ℕ). leb (34 + k) (m - l .used)) size (l .inv .size)) ∙ not-false _ (c .if1 .left) in
-    let room : 34 + shownLength h ≤ length (a .answers .now) - l .used = leb-true _ _ fits in
-    omega (arith, within, room, l .inv .size, l .inv .room)
+    omega (arith, within c, room c, l .inv .size, l .inv .room)
 
 part-answer-end : tie.Need-part-answer-end Inv-loop μ-loop
 part-answer-end c = search needs
 
 sub-answer-2 : tie.Need-sub-answer-2 Inv-loop μ-loop
 sub-answer-2 c =
-    let l = c .before .before .before .before .before .before .before .before .before .before .loop in
-    let a = c .before .before .before .before .before .before .before .before .before .before .before .before .before .args in
-    let h = c .before .before .before .before .before .read .given .0 .0 in
-    let is : Call h ≡ readOf (drop (l .at) (a .list .now)) =
-    sym (c .before .before .before .before .before .read .given .1) ∙ c .before .before .before .before .before .before .before .read-call .ensures ∙ ap readOf (from-place (a .list .now) (l .at)) in
-    let more : l .at < length (a .list .now) = c .before .before .before .before .before .before .before .before .before .loop-test .taken in
-    let within = call-within _ _ _ _ _ _ _ (l .inv) more h is in
-    let size = c .before .before .before .shown-len .ensures in
-    let fits : leb (34 + shownLength h) (length (a .answers .now) - l .used) ≡ true =
-    sym (c .before .before .fits2 .ensures ∙ ap₂ (λ (k m : ℕ). leb (34 + k) (m - l .used)) size (l .inv .size)) ∙ not-false _ (c .before .if1 .left) in
-    let room : 34 + shownLength h ≤ length (a .answers .now) - l .used = leb-true _ _ fits in
-    omega (arith, within, room, l .inv .size, l .inv .room)
+    let t = c .before in
+    let l = t .before .before .before .before .before .before .before .before .before .loop in
+    omega (arith, within t, room t, l .inv .size, l .inv .room)
 
 part-answer-start-2 : tie.Need-part-answer-start-2 Inv-loop μ-loop
 part-answer-start-2 c =
-    let l = c .before .before .before .before .before .before .before .before .before .before .loop in
-    let a = c .before .before .before .before .before .before .before .before .before .before .before .before .before .args in
-    let h = c .before .before .before .before .before .read .given .0 .0 in
-    let is : Call h ≡ readOf (drop (l .at) (a .list .now)) =
-    sym (c .before .before .before .before .before .read .given .1) ∙ c .before .before .before .before .before .before .before .read-call .ensures ∙ ap readOf (from-place (a .list .now) (l .at)) in
-    let more : l .at < length (a .list .now) = c .before .before .before .before .before .before .before .before .before .loop-test .taken in
-    let within = call-within _ _ _ _ _ _ _ (l .inv) more h is in
-    let size = c .before .before .before .shown-len .ensures in
-    let fits : leb (34 + shownLength h) (length (a .answers .now) - l .used) ≡ true =
-    sym (c .before .before .fits2 .ensures ∙ ap₂ (λ (k m : ℕ). leb (34 + k) (m - l .used)) size (l .inv .size)) ∙ not-false _ (c .before .if1 .left) in
-    let room : 34 + shownLength h ≤ length (a .answers .now) - l .used = leb-true _ _ fits in
-    omega (arith, within, room, l .inv .size, l .inv .room)
+    let t = c .before in
+    let l = t .before .before .before .before .before .before .before .before .before .loop in
+    omega (arith, within t, room t, l .inv .size, l .inv .room)
 
 part-answer-end-2 : tie.Need-part-answer-end-2 Inv-loop μ-loop
 part-answer-end-2 c = search needs
 
 answer-requires : tie.Need-answer-requires Inv-loop μ-loop
 answer-requires c κs =
-    let l = c .before .before .before .before .before .before .before .before .before .before .before .loop in
-    let a = c .before .before .before .before .before .before .before .before .before .before .before .before .before .before .args in
-    let h = c .before .before .before .before .before .before .read .given .0 .0 in
-    let is : Call h ≡ readOf (drop (l .at) (a .list .now)) =
-    sym (c .before .before .before .before .before .before .read .given .1) ∙ c .before .before .before .before .before .before .before .before .read-call .ensures ∙ ap readOf (from-place (a .list .now) (l .at)) in
-    let more : l .at < length (a .list .now) = c .before .before .before .before .before .before .before .before .before .before .loop-test .taken in
-    let within = call-within _ _ _ _ _ _ _ (l .inv) more h is in
-    let size = c .before .before .before .before .shown-len .ensures in
-    let fits : leb (34 + shownLength h) (length (a .answers .now) - l .used) ≡ true =
-    sym (c .before .before .before .fits2 .ensures ∙ ap₂ (λ (k m : ℕ). leb (34 + k) (m - l .used)) size (l .inv .size)) ∙ not-false _ (c .before .before .if1 .left) in
-    let room : 34 + shownLength h ≤ length (a .answers .now) - l .used = leb-true _ _ fits in
-    (simp (length-take, length-drop) (omega (arith, within)), simp (length-take, length-drop) (omega (arith, room, l .inv .size)))
+    let t = c .before .before in
+    let l = t .before .before .before .before .before .before .before .before .before .loop in
+    (simp (length-take, length-drop) (omega (arith, within t)), simp (length-take, length-drop) (omega (arith, room t, l .inv .size)))
 
 add-used : tie.Need-add-used Inv-loop μ-loop
 add-used c =
-    let l = c .before .before .before .before .before .before .before .before .before .before .before .before .before .before .loop in
-    let a = c .before .before .before .before .before .before .before .before .before .before .before .before .before .before .before .before .before .args in
-    let h = c .before .before .before .before .before .before .before .before .before .read .given .0 .0 in
-    let is : Call h ≡ readOf (drop (l .at) (a .list .now)) =
-    sym (c .before .before .before .before .before .before .before .before .before .read .given .1) ∙ c .before .before .before .before .before .before .before .before .before .before .before .read-call .ensures ∙ ap readOf (from-place (a .list .now) (l .at)) in
-    let more : l .at < length (a .list .now) = c .before .before .before .before .before .before .before .before .before .before .before .before .before .loop-test .taken in
-    let within = call-within _ _ _ _ _ _ _ (l .inv) more h is in
-    let size = c .before .before .before .before .before .before .before .shown-len .ensures in
-    let fits : leb (34 + shownLength h) (length (a .answers .now) - l .used) ≡ true =
-    sym (c .before .before .before .before .before .before .fits2 .ensures ∙ ap₂ (λ (k m : ℕ). leb (34 + k) (m - l .used)) size (l .inv .size)) ∙ not-false _ (c .before .before .before .before .before .if1 .left) in
-    let room : 34 + shownLength h ≤ length (a .answers .now) - l .used = leb-true _ _ fits in
-    omega (arith, room, size, c .before .before .before .before .before .before .before .before .before .before .before .before .before .before .before .before .before .good)
+    let t = c .before .before .before .before .before in
+    omega (arith, room t, t .before .before .shown-len .ensures, t .before .before .before .before .before .before .before .before .before .before .before .before .good)
 
 add-used-2 : tie.Need-add-used-2 Inv-loop μ-loop
 add-used-2 c =
-    let l = c .before .before .before .before .before .before .before .before .before .before .before .before .before .before .loop in
-    let a = c .before .before .before .before .before .before .before .before .before .before .before .before .before .before .before .before .before .args in
-    let h = c .before .before .before .before .before .before .before .before .before .read .given .0 .0 in
-    let is : Call h ≡ readOf (drop (l .at) (a .list .now)) =
-    sym (c .before .before .before .before .before .before .before .before .before .read .given .1) ∙ c .before .before .before .before .before .before .before .before .before .before .before .read-call .ensures ∙ ap readOf (from-place (a .list .now) (l .at)) in
-    let more : l .at < length (a .list .now) = c .before .before .before .before .before .before .before .before .before .before .before .before .before .loop-test .taken in
-    let within = call-within _ _ _ _ _ _ _ (l .inv) more h is in
-    let size = c .before .before .before .before .before .before .before .shown-len .ensures in
-    let fits : leb (34 + shownLength h) (length (a .answers .now) - l .used) ≡ true =
-    sym (c .before .before .before .before .before .before .fits2 .ensures ∙ ap₂ (λ (k m : ℕ). leb (34 + k) (m - l .used)) size (l .inv .size)) ∙ not-false _ (c .before .before .before .before .before .if1 .left) in
-    let room : 34 + shownLength h ≤ length (a .answers .now) - l .used = leb-true _ _ fits in
-    omega (arith, room, size, l .inv .room, c .before .before .before .before .before .before .before .before .before .before .before .before .before .before .before .before .before .good)
+    let t = c .before .before .before .before .before in
+    let l = t .before .before .before .before .before .before .before .before .before .loop in
+    omega (arith, room t, t .before .before .shown-len .ensures, l .inv .room, t .before .before .before .before .before .before .before .before .before .before .before .before .good)
 
 add-at : tie.Need-add-at Inv-loop μ-loop
 add-at c =
-    let l = c .before .before .before .before .before .before .before .before .before .before .before .before .before .before .before .loop in
-    let a = c .before .before .before .before .before .before .before .before .before .before .before .before .before .before .before .before .before .before .args in
-    let h = c .before .before .before .before .before .before .before .before .before .before .read .given .0 .0 in
-    let is : Call h ≡ readOf (drop (l .at) (a .list .now)) =
-    sym (c .before .before .before .before .before .before .before .before .before .before .read .given .1) ∙ c .before .before .before .before .before .before .before .before .before .before .before .before .read-call .ensures ∙ ap readOf (from-place (a .list .now) (l .at)) in
-    let more : l .at < length (a .list .now) = c .before .before .before .before .before .before .before .before .before .before .before .before .before .before .loop-test .taken in
-    let within = call-within _ _ _ _ _ _ _ (l .inv) more h is in
-    let size = c .before .before .before .before .before .before .before .before .shown-len .ensures in
-    let fits : leb (34 + shownLength h) (length (a .answers .now) - l .used) ≡ true =
-    sym (c .before .before .before .before .before .before .before .fits2 .ensures ∙ ap₂ (λ (k m : ℕ). leb (34 + k) (m - l .used)) size (l .inv .size)) ∙ not-false _ (c .before .before .before .before .before .before .if1 .left) in
-    let room : 34 + shownLength h ≤ length (a .answers .now) - l .used = leb-true _ _ fits in
-    omega (arith, within, c .before .before .before .before .before .before .before .before .before .before .before .before .before .before .before .before .before .before .good)
+    let t = c .before .before .before .before .before .before in
+    omega (arith, within t, t .before .before .before .before .before .before .before .before .before .before .before .before .good)
 
 add-at-2 : tie.Need-add-at-2 Inv-loop μ-loop
 add-at-2 c =
-    let l = c .before .before .before .before .before .before .before .before .before .before .before .before .before .before .before .before .loop in
-    let a = c .before .before .before .before .before .before .before .before .before .before .before .before .before .before .before .before .before .before .before .args in
-    let h = c .before .before .before .before .before .before .before .before .before .before .before .read .given .0 .0 in
-    let is : Call h ≡ readOf (drop (l .at) (a .list .now)) =
-    sym (c .before .before .before .before .before .before .before .before .before .before .before .read .given .1) ∙ c .before .before .before .before .before .before .before .before .before .before .before .before .before .read-call .ensures ∙ ap readOf (from-place (a .list .now) (l .at)) in
-    let more : l .at < length (a .list .now) = c .before .before .before .before .before .before .before .before .before .before .before .before .before .before .before .loop-test .taken in
-    let within = call-within _ _ _ _ _ _ _ (l .inv) more h is in
-    let size = c .before .before .before .before .before .before .before .before .before .shown-len .ensures in
-    let fits : leb (34 + shownLength h) (length (a .answers .now) - l .used) ≡ true =
-    sym (c .before .before .before .before .before .before .before .before .fits2 .ensures ∙ ap₂ (λ (k m : ℕ). leb (34 + k) (m - l .used)) size (l .inv .size)) ∙ not-false _ (c .before .before .before .before .before .before .before .if1 .left) in
-    let room : 34 + shownLength h ≤ length (a .answers .now) - l .used = leb-true _ _ fits in
-    omega (arith, within, c .before .before .before .before .before .before .before .before .before .before .before .before .before .before .before .before .before .before .before .good)
+    let t = c .before .before .before .before .before .before .before in
+    omega (arith, within t, t .before .before .before .before .before .before .before .before .before .before .before .before .good)
 
 add-at-3 : tie.Need-add-at-3 Inv-loop μ-loop
 add-at-3 c =
-    let l = c .before .before .before .before .before .before .before .before .before .before .before .before .before .before .before .before .before .loop in
-    let a = c .before .before .before .before .before .before .before .before .before .before .before .before .before .before .before .before .before .before .before .before .args in
-    let h = c .before .before .before .before .before .before .before .before .before .before .before .before .read .given .0 .0 in
-    let is : Call h ≡ readOf (drop (l .at) (a .list .now)) =
-    sym (c .before .before .before .before .before .before .before .before .before .before .before .before .read .given .1) ∙ c .before .before .before .before .before .before .before .before .before .before .before .before .before .before .read-call .ensures ∙ ap readOf (from-place (a .list .now) (l .at)) in
-    let more : l .at < length (a .list .now) = c .before .before .before .before .before .before .before .before .before .before .before .before .before .before .before .before .loop-test .taken in
-    let within = call-within _ _ _ _ _ _ _ (l .inv) more h is in
-    let size = c .before .before .before .before .before .before .before .before .before .before .shown-len .ensures in
-    let fits : leb (34 + shownLength h) (length (a .answers .now) - l .used) ≡ true =
-    sym (c .before .before .before .before .before .before .before .before .before .fits2 .ensures ∙ ap₂ (λ (k m : ℕ). leb (34 + k) (m - l .used)) size (l .inv .size)) ∙ not-false _ (c .before .before .before .before .before .before .before .before .if1 .left) in
-    let room : 34 + shownLength h ≤ length (a .answers .now) - l .used = leb-true _ _ fits in
-    omega (arith, within, c .before .before .before .before .before .before .before .before .before .before .before .before .before .before .before .before .before .before .before .before .good)
+    let t = c .before .before .before .before .before .before .before .before in
+    omega (arith, within t, t .before .before .before .before .before .before .before .before .before .before .before .before .good)
 
 add-at-4 : tie.Need-add-at-4 Inv-loop μ-loop
 add-at-4 c =
-    let l = c .before .before .before .before .before .before .before .before .before .before .before .before .before .before .before .before .before .loop in
-    let a = c .before .before .before .before .before .before .before .before .before .before .before .before .before .before .before .before .before .before .before .before .args in
-    let h = c .before .before .before .before .before .before .before .before .before .before .before .before .read .given .0 .0 in
-    let is : Call h ≡ readOf (drop (l .at) (a .list .now)) =
-    sym (c .before .before .before .before .before .before .before .before .before .before .before .before .read .given .1) ∙ c .before .before .before .before .before .before .before .before .before .before .before .before .before .before .read-call .ensures ∙ ap readOf (from-place (a .list .now) (l .at)) in
-    let more : l .at < length (a .list .now) = c .before .before .before .before .before .before .before .before .before .before .before .before .before .before .before .before .loop-test .taken in
-    let within = call-within _ _ _ _ _ _ _ (l .inv) more h is in
-    let size = c .before .before .before .before .before .before .before .before .before .before .shown-len .ensures in
-    let fits : leb (34 + shownLength h) (length (a .answers .now) - l .used) ≡ true =
-    sym (c .before .before .before .before .before .before .before .before .before .fits2 .ensures ∙ ap₂ (λ (k m : ℕ). leb (34 + k) (m - l .used)) size (l .inv .size)) ∙ not-false _ (c .before .before .before .before .before .before .before .before .if1 .left) in
-    let room : 34 + shownLength h ≤ length (a .answers .now) - l .used = leb-true _ _ fits in
-    omega (arith, within, l .inv .within, c .before .before .before .before .before .before .before .before .before .before .before .before .before .before .before .before .before .before .before .before .good)
+    let t = c .before .before .before .before .before .before .before .before in
+    let l = t .before .before .before .before .before .before .before .before .before .loop in
+    omega (arith, within t, l .inv .within, t .before .before .before .before .before .before .before .before .before .before .before .before .good)
 
 loop-less : tie.Need-loop-less Inv-loop μ-loop
 loop-less c =
-    let l = c .before .before .before .before .before .before .before .before .before .before .before .before .before .before .before .before .before .loop in
-    let a = c .before .before .before .before .before .before .before .before .before .before .before .before .before .before .before .before .before .before .before .before .args in
-    let h = c .before .before .before .before .before .before .before .before .before .before .before .before .read .given .0 .0 in
-    let is : Call h ≡ readOf (drop (l .at) (a .list .now)) =
-    sym (c .before .before .before .before .before .before .before .before .before .before .before .before .read .given .1) ∙ c .before .before .before .before .before .before .before .before .before .before .before .before .before .before .read-call .ensures ∙ ap readOf (from-place (a .list .now) (l .at)) in
-    let more : l .at < length (a .list .now) = c .before .before .before .before .before .before .before .before .before .before .before .before .before .before .before .before .loop-test .taken in
-    let within = call-within _ _ _ _ _ _ _ (l .inv) more h is in
-    let size = c .before .before .before .before .before .before .before .before .before .before .shown-len .ensures in
-    let fits : leb (34 + shownLength h) (length (a .answers .now) - l .used) ≡ true =
-    sym (c .before .before .before .before .before .before .before .before .before .fits2 .ensures ∙ ap₂ (λ (k m : ℕ). leb (34 + k) (m - l .used)) size (l .inv .size)) ∙ not-false _ (c .before .before .before .before .before .before .before .before .if1 .left) in
-    let room : 34 + shownLength h ≤ length (a .answers .now) - l .used = leb-true _ _ fits in
-    omega (arith, within)
+    let t = c .before .before .before .before .before .before .before .before in
+    omega (arith, within t)
 
 loop-again : tie.Need-loop-again Inv-loop μ-loop
 loop-again c =
-    let l = c .before .before .before .before .before .before .before .before .before .before .before .before .before .before .before .before .before .loop in
-    let a = c .before .before .before .before .before .before .before .before .before .before .before .before .before .before .before .before .before .before .before .before .args in
-    let h = c .before .before .before .before .before .before .before .before .before .before .before .before .read .given .0 .0 in
-    let is : Call h ≡ readOf (drop (l .at) (a .list .now)) =
-    sym (c .before .before .before .before .before .before .before .before .before .before .before .before .read .given .1) ∙ c .before .before .before .before .before .before .before .before .before .before .before .before .before .before .read-call .ensures ∙ ap readOf (from-place (a .list .now) (l .at)) in
-    let more : l .at < length (a .list .now) = c .before .before .before .before .before .before .before .before .before .before .before .before .before .before .before .before .loop-test .taken in
-    let within = call-within _ _ _ _ _ _ _ (l .inv) more h is in
-    let size = c .before .before .before .before .before .before .before .before .before .before .shown-len .ensures in
-    let fits : leb (34 + shownLength h) (length (a .answers .now) - l .used) ≡ true =
-    sym (c .before .before .before .before .before .before .before .before .before .fits2 .ensures ∙ ap₂ (λ (k m : ℕ). leb (34 + k) (m - l .used)) size (l .inv .size)) ∙ not-false _ (c .before .before .before .before .before .before .before .before .if1 .left) in
-    let room : 34 + shownLength h ≤ length (a .answers .now) - l .used = leb-true _ _ fits in
-    walk-code _ _ _ _ _ _ _ (l .inv) more h is fits (c .before .before .before .before .before .answer .result) (c .before .before .before .before .before .answer .last .1 .1 .1 .0) (c .before .before .before .before .before .before .before .before .before .before .shown-len .result) size (c .before .before .before .before .before .answer .ensures .0) (c .before .before .before .before .before .answer .ensures .1) (c .before .before .before .before .answers .given .0)
+    let t = c .before .before .before .before .before .before .before .before in
+    let l = t .before .before .before .before .before .before .before .before .before .loop in
+    walk-code _ _ _ _ _ _ _ (l .inv) (more t) (h t) (is t) (fits t) (c .before .before .before .before .before .answer .result) (c .before .before .before .before .before .answer .last .1 .1 .1 .0) (t .before .before .shown-len .result) (t .before .before .shown-len .ensures) (c .before .before .before .before .before .answer .ensures .0) (c .before .before .before .before .before .answer .ensures .1) (c .before .before .before .before .answers .given .0)
 
 same-length-3 : tie.Need-same-length-3 Inv-loop μ-loop
 same-length-3 c = c .before .loop .inv .size
