@@ -1,12 +1,15 @@
 // Document 01's sheet ("Worked by hand"): the calls given there on a new engine of variant 1, all
-// contents zero, and a line for each made from its answer. The file stdout holds the printed block.
+// contents zero, and a line for each made from its answer. The calls go through the lent engine and
+// AeadParamsRef. The file stdout holds the printed block.
+mod lent;
+
 use host::reply;
 use host::reply::Reply;
 use host::text;
 use host::text::CallName;
 use host::text::Text;
 use libc::STDOUT_FILENO;
-use tc_sparkle_aead::aead_cipher;
+use tc_aead_cipher::aead_params_ref;
 use tc_sparkle_aead::engine;
 use tc_sparkle_aead::engine::Done;
 use tc_sparkle_aead::engine::SparkleEngine;
@@ -25,8 +28,8 @@ fn show(t: Text) {
 
 // The line of a call, from its answer and the engine afterwards.
 fn show_line(call: CallName, answer: Reply, e: SparkleEngine) {
-    let m = aead_cipher::mac(e);
-    show(text::line(call, answer, aead_cipher::steps(e), m.readable));
+    let m = lent::mac(e);
+    show(text::line(call, answer, lent::steps(e), m.readable));
 }
 
 fn shown(call: CallName, d: Done) -> SparkleEngine {
@@ -39,7 +42,7 @@ fn shown(call: CallName, d: Done) -> SparkleEngine {
 // A sealing start without initial header.
 fn start(e: SparkleEngine) -> SparkleEngine {
     let zeros = [0u8; 16];
-    let s = aead_cipher::init(e, Direction::Encrypt, &zeros, &zeros, 16, b"");
+    let s = aead_params_ref::init_owned(e, Direction::Encrypt, &zeros, &zeros, 16, b"");
     let r = s.answer;
     let next = s.engine;
     show_line(CallName::Init, reply::start_reply_of(r), next);
@@ -47,15 +50,15 @@ fn start(e: SparkleEngine) -> SparkleEngine {
 }
 
 fn header(e: SparkleEngine, input: &[u8]) -> SparkleEngine {
-    shown(CallName::Aad, aead_cipher::process_aad_bytes(e, input))
+    shown(CallName::Aad, lent::process_aad_bytes(e, input))
 }
 
 fn data(e: SparkleEngine, input: &[u8], output: &mut [u8]) -> SparkleEngine {
-    shown(CallName::Data, aead_cipher::process_bytes(e, input, output))
+    shown(CallName::Data, lent::process_bytes(e, input, output))
 }
 
 fn end(e: SparkleEngine, output: &mut [u8]) -> SparkleEngine {
-    shown(CallName::Final, aead_cipher::do_final(e, output))
+    shown(CallName::Final, lent::do_final(e, output))
 }
 
 fn main() {

@@ -3,7 +3,8 @@
 --     opened       the engine's `&mut` is opened: its cell, with the engine's machine value, and what closes the borrow
 --     closed       the cell holds another engine: the borrow is closed at it
 --     looked       the engine's `&` is looked into: a share of its cell, with the engine's machine value; `shuts` ends it
---     lends, back  an engine in a local is lent by `&mut` for a lifetime that the walk makes, and comes back with its last value
+--     lends, back      an engine in a local is lent by `&mut` for a lifetime that the walk makes, and comes back with its last value
+--     shows-to, shown  the same by `&`, and it comes back as it was
 --     meets        a function whose walk is done at every choice of lifetimes, shares and arguments meets its contract
 -- Assumes `Given`.
 pub use mathlib.Core.Path.{_≡_, refl, ap}
@@ -46,8 +47,8 @@ pub use denote.Triple.Walked.{says, Stays, stay-ref, stay-none, stay-none-ref, s
 pub use denote.Exit.{yes}
 pub use denote.Plain.{uint-vals, uint-tells, uint-makes, uint-lawful}
 use types.Kit.{Goal, Soaks, Step, step, Seq, nth, use3, fpick, fpack}
-use types.Tokens.{lft-new, lft-end}
-use denote.Lend.{lends-ref, ref-back}
+use types.Tokens.{lft-new, lft-end, lent-back}
+use denote.Lend.{lends-ref, ref-back, lends-shr}
 use types.Run.{Reads, Walks as Leads, Rv}
 use types.Part.{Part}
 use prog.Wp.{Env, Spot, spotOf}
@@ -229,24 +230,45 @@ module _ {M : Type 1} {𝓤 : URA M} {H : Heap 𝓤} {A : Atoms 𝓤} {K : Type 
       spelt t R (Is R) (shows 𝓤 H A R) e-vals (LL.tells E.the-type E′.the-laws) s h vs b o $ move t (1 ∷ []) $ peeks t R (Is R) (shows 𝓤 H A R) h (e-vals h) (λ was. move t (1 ∷ 0 ∷ []) $ k s was))
 
 module _ {M : Type 1} {𝓤 : URA M} {H : Heap 𝓤} {A : Atoms 𝓤} {K : Type 0} {W : Given 𝓤 H A} {Γ : List (Item 𝓤)} {G : Goal 𝓤 H} where
+  -- an engine in a local, as a value in memory that can be lent; and back
+  put-in : K → (h : SparkleEngine) (b : ℕ) → Is R h (e-vals h) → Step K W (‵ (partAt R fullShare h b 0) ∷ Γ) G (‵ (fat fullShare E′.mir b 0 (e-val h)) ∷ Γ) G
+  unfolding partOf
+  put-in t h b is = step (λ s.
+      use1 W (‵ (cellAt fullShare (R .mir) (e-vals h) b 0)) (W .laws .at-raw fullShare E′.mir b 0 (e-val h)) $ e-owned t h is $ move t (1 ∷ 0 ∷ []) $ fjoin t $
+      fpack t (List Val) (λ vs. fsep (cellAt fullShare (R .mir) vs b 0) (R .own h vs)) (e-vals h) $ s)
+
+  taken-out : K → (h : SparkleEngine) (b : ℕ) → (Is R h (e-vals h) → Seq K W (‵ (fat fullShare E′.mir b 0 (e-val h)) ∷ Γ) G) → Seq K W (‵ (partAt R fullShare h b 0) ∷ Γ) G
+  unfolding partOf e-val
+  taken-out t h b k =
+      fpick t (λ vs. fsplit t $ spelt t R (Is R) (shows 𝓤 H A R) e-vals (LL.tells E.the-type E′.the-laws) fullShare h vs b 0 $ move t (1 ∷ []) $ peeks t R (Is R) (shows 𝓤 H A R) h (e-vals h) (λ is. drop t $
+      use1 W (‵ (fat fullShare E′.mir b 0 (e-val h))) (W .laws .raw-at fullShare E′.mir b 0 (e-val h)) $ k is))
+
+module _ {M : Type 1} {𝓤 : URA M} {H : Heap 𝓤} {A : Atoms 𝓤} {K : Type 0} {W : Given 𝓤 H A} {Γ : List (Item 𝓤)} {G : Goal 𝓤 H} where
   pub lends : K → Soaks G → (h : SparkleEngine) (b : ℕ) → Is R h (e-vals h)
       → ((α : ℕ) (γ : GName) → Seq K W (‵ (MutRef (named 0) (α ∷ []) R .own (record { ptr = (b, 0); name = γ; now = h }) (vptr b 0 ∷ [])) ∷ ‵ (flft (α ∷ []) fullShare) ∷ ‵ (flent (α ∷ []) (Body (mem R) b 0 γ)) ∷ Γ) G)
       → Seq K W (‵ (fat fullShare E′.mir b 0 (e-val h)) ∷ Γ) G
-  unfolding partOf
   lends t z h b is k =
-      use1 W (‵ (cellAt fullShare (R .mir) (e-vals h) b 0)) (W .laws .at-raw fullShare E′.mir b 0 (e-val h)) $ e-owned t h is $ move t (1 ∷ 0 ∷ []) $ fjoin t $
-      fpack t (List Val) (λ vs. fsep (cellAt fullShare (R .mir) vs b 0) (R .own h vs)) (e-vals h) $ lft-new t z (λ α. move t (1 ∷ []) $
+      put-in t h b is $ lft-new t z (λ α. move t (1 ∷ []) $
       use1 W (later (some (λ (γ : GName). ‵ (MutRef (named 0) (α ∷ []) R .own (record { ptr = (b, 0); name = γ; now = h }) (vptr b 0 ∷ [])) ⊛ ‵ (flent (α ∷ []) (Body (mem R) b 0 γ))))) (lends-ref 𝓤 H A W R (named 0) (α ∷ []) h b 0) $
       await t z $ pick t (λ γ. split t $ move t (0 ∷ 2 ∷ []) $ k α γ))
 
   pub back : K → Soaks G → {α : ℕ} {γ : GName} (h : SparkleEngine) (b : ℕ)
       → (Is R h (e-vals h) → Seq K W (‵ (fat fullShare E′.mir b 0 (e-val h)) ∷ Γ) G)
       → Seq K W (‵ (fres γ (R .coded .code h)) ∷ ‵ (flft (α ∷ []) fullShare) ∷ ‵ (flent (α ∷ []) (Body (mem R) b 0 γ)) ∷ Γ) G
-  unfolding partOf e-val
   back t z {α} {γ} h b k =
-      move t (1 ∷ []) $ lft-end t z $ move t (0 ∷ 2 ∷ 1 ∷ []) $ use3 W (later (‵ (partAt R fullShare h b 0))) (ref-back 𝓤 H A W R (α ∷ []) γ h b 0) $ await t z $ fpick t (λ vs. fsplit t $
-      spelt t R (Is R) (shows 𝓤 H A R) e-vals (LL.tells E.the-type E′.the-laws) fullShare h vs b 0 $ move t (1 ∷ []) $ peeks t R (Is R) (shows 𝓤 H A R) h (e-vals h) (λ is. drop t $
-      use1 W (‵ (fat fullShare E′.mir b 0 (e-val h))) (W .laws .raw-at fullShare E′.mir b 0 (e-val h)) $ k is))
+      move t (1 ∷ []) $ lft-end t z $ move t (0 ∷ 2 ∷ 1 ∷ []) $ use3 W (later (‵ (partAt R fullShare h b 0))) (ref-back 𝓤 H A W R (α ∷ []) γ h b 0) $ await t z $ taken-out t h b k
+
+  pub shows-to : K → Soaks G → (h : SparkleEngine) (b : ℕ) → Is R h (e-vals h)
+      → ((α : ℕ) (γ : GName) → Seq K W (‵ (ShrRef (named 0) (α ∷ []) R .own (record { ptr = (b, 0); name = γ; now = h }) (vptr b 0 ∷ [])) ∷ ‵ (flft (α ∷ []) fullShare) ∷ ‵ (flent (α ∷ []) (partAt R fullShare h b 0)) ∷ Γ) G)
+      → Seq K W (‵ (fat fullShare E′.mir b 0 (e-val h)) ∷ Γ) G
+  shows-to t z h b is k =
+      put-in t h b is $ lft-new t z (λ α. move t (1 ∷ []) $
+      use1 W (later (some (λ (γ : GName). ‵ (ShrRef (named 0) (α ∷ []) R .own (record { ptr = (b, 0); name = γ; now = h }) (vptr b 0 ∷ [])) ⊛ ‵ (flent (α ∷ []) (partAt R fullShare h b 0))))) (lends-shr 𝓤 H A W R (named 0) (α ∷ []) fullShare h b 0) $
+      await t z $ pick t (λ γ. split t $ move t (0 ∷ 2 ∷ []) $ k α γ))
+
+  pub shown : K → Soaks G → {α : ℕ} (h : SparkleEngine) (b : ℕ) → (Is R h (e-vals h) → Seq K W (‵ (fat fullShare E′.mir b 0 (e-val h)) ∷ Γ) G)
+      → Seq K W (‵ (flft (α ∷ []) fullShare) ∷ ‵ (flent (α ∷ []) (partAt R fullShare h b 0)) ∷ Γ) G
+  shown t z h b k = lft-end t z $ lent-back t z $ taken-out t h b k
 
 -- ---- a field of a struct of two fields that lies in the local i
 abbrev pairOf : Sym → Ty → Ty → Ty

@@ -2,6 +2,7 @@
 -- type T and any function g by value. The engine's borrow is looked into, the engine is copied out whole and the borrow is
 -- shut; then g is called, of which the proof knows only that it meets its contract.
 --     ended, clauses, function     what such a query's contract and code are, of which each query is an instance
+--     by-value, ensures, Callee    what g's contract is
 --     query                        such a query, whose g answers `answer` of its engine, answers `answer` of the lent engine
 -- Assumes nothing.
 use Rattle.tc_aead_cipher.proofs.Lent.{_≡_, refl, List, [], _∷_, ℕ, URA, named, Val, vptr, SProp, ent, Lft, Share, GName, ftrue, flft, fres, fshr-bor, Memory, Routine, Heap, Calls, Loops, WpFn, Tables, Atoms, Fun, fact, Given, Item, ‵, raw, some, later, _⊛_, ⋆, _$_, _∵_, !, qed, by, move, keep, drop, use1, use2, split, join, pick, fsplit, fsplit3, fjoin, fjoin3, feqI, suffices, frame, await, done, look, look-raw, init, forget, stop, hop, from, load, of-opd, and-then, no-more, assigns, land, returns, enter, alloc1, alloc0, params1, pass1, pass0, free1, free0, FmC, RattleType, owns, Is, shows, partAt, RefT, now, ShrRef, ptr-vals, shr-tells, plain, shuts, peeks, heard, nothing, onEntry, Meets, tripleOf, Contract, Triple, calls-at, ensured, lasts, says, Stays, stay-none-ref, walkOf, goes-none-ref, ends-at, yes, id⊢, SparkleEngine, R, e-vals, e-typed, e-owned, looked, meets}
@@ -25,10 +26,10 @@ module _ (T : RattleType) (τ : Ty) (answer : SparkleEngine → T .Denot) (g : N
   clauses 𝓤 κs args = record { ghost = Unit {0}; requires = λ _. emp 𝓤; ensures = λ _ r end. fact 𝓤 (r ≡ answer (now (args .0))) }
 
   -- the function by value
-  abbrev by-value : Ended
+  abbrev pub by-value : Ended
   by-value = record { signature = record { lifetimes = 0; outlives = []; params = plain (λ _. R) ∷ []; result = plain (λ _. T) }; kept = (yes, tt) }
 
-  abbrev ensures : {M : Type 1} (𝓤 : URA M) → Clauses 𝓤 by-value
+  abbrev pub ensures : {M : Type 1} (𝓤 : URA M) → Clauses 𝓤 by-value
   ensures 𝓤 κs args = record { ghost = Unit {0}; requires = λ _. emp 𝓤; ensures = λ _ r end. fact 𝓤 (r ≡ answer (args .0)) }
 
   abbrev pub Callee : {M : Type 1} (𝓤 : URA M) (H : Heap 𝓤) (A : Atoms 𝓤) → Contract 𝓤

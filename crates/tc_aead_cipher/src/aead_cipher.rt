@@ -105,19 +105,19 @@ pub fn variant(e: &SparkleEngine) -> SparkleVariant
 }
 
 pub fn key_bytes(e: &SparkleEngine) -> usize
-    ensures { λ r. ⌜ r ≡ paramsOf (now (e .entry) .variant) .key ⌝ }
+    ensures { λ k. ⌜ k ≡ paramsOf (now (e .entry) .variant) .key ⌝ }
 {
     engine::key_bytes(*e)
 }
 
 pub fn nonce_bytes(e: &SparkleEngine) -> usize
-    ensures { λ r. ⌜ r ≡ paramsOf (now (e .entry) .variant) .rate ⌝ }
+    ensures { λ n. ⌜ n ≡ paramsOf (now (e .entry) .variant) .rate ⌝ }
 {
     engine::nonce_bytes(*e)
 }
 
 pub fn tag_bytes(e: &SparkleEngine) -> usize
-    ensures { λ r. ⌜ r ≡ paramsOf (now (e .entry) .variant) .key ⌝ }
+    ensures { λ t. ⌜ t ≡ paramsOf (now (e .entry) .variant) .key ⌝ }
 {
     engine::tag_bytes(*e)
 }
