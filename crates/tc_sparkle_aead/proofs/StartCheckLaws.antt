@@ -21,7 +21,7 @@ use Rattle.tc_sparkle_aead.specs.declared.engine.Mac.{Mac}
 use Rattle.tc_sparkle_aead.specs.declared.engine.SparkleEngine.{SparkleEngine}
 use Rattle.tc_sparkle_aead.specs.Variant.{paramsOf}
 use Rattle.tc_sparkle_aead.specs.Checks.{startCheck}
-use Rattle.tc_sparkle_aead.specs.Engine.{noMac, repeats, remember, initSteps}
+use Rattle.tc_sparkle_aead.specs.Engine.{noMac, newEngine, repeats, remember, initSteps}
 use Rattle.tc_sparkle_aead.specs.Calls.{startPoint, headed, headedSteps, started, refused, initBy, init}
 use Rattle.tc_sparkle_aead.proofs.CheckLaws.{startCheck-key, startCheck-nonce}
 
@@ -117,6 +117,12 @@ started-is e d key nonce header at point pair mac big steps count ea ep er em eb
       mac = em i;
       steps = record { current = ec′ i; initial = ec′ i };
     }
+
+-- of the engine before it only the variant counts
+pub started-by-variant : (e : SparkleEngine) (d : Direction) (key nonce header : List ℕ)
+    → started (newEngine (e .variant)) d key nonce header ≡ started e d key nonce header
+unfolding started newEngine
+started-by-variant e d key nonce header = refl
 
 -- a start by its check: what it answers, and the engine afterwards
 module _ (e : SparkleEngine) (d : Direction) (key nonce : List ℕ) (size : ℕ) (header : List ℕ) (again : Bool)

@@ -38,7 +38,7 @@ pub fn init(
     };
     Started {
         answer,
-        engine: engine::start(e, direction, key, nonce, header),
+        engine: engine::start(variant, direction, key, nonce, header),
     }
 }
 

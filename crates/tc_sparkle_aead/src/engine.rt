@@ -404,18 +404,17 @@ fn start_point(variant: SparkleVariant, d: Direction, key: &[u8], nonce: &[u8]) 
     }
 }
 
-// A start that is taken loads its pair and absorbs its header.
+// A start that is taken loads its pair and absorbs its header; of the old engine the variant stays.
 pub(crate) fn start(
-    mut e: SparkleEngine,
+    variant: SparkleVariant,
     d: Direction,
     key: &[u8],
     nonce: &[u8],
     header: &[u8],
 ) -> SparkleEngine
-    requires { ⌜ (length (now key) ≡ paramsOf (e .variant) .key) × (length (now nonce) ≡ paramsOf (e .variant) .rate) ⌝ }
-    ensures { λ r. ⌜ r ≡ started e d (now (key .entry)) (now (nonce .entry)) (now (header .entry)) ⌝ }
+    requires { ⌜ (length (now key) ≡ paramsOf variant .key) × (length (now nonce) ≡ paramsOf variant .rate) ⌝ }
+    ensures { λ r. ⌜ r ≡ started (newEngine variant) d (now (key .entry)) (now (nonce .entry)) (now (header .entry)) ⌝ }
 {
-    let variant = e.variant;
     let at = start_point(variant, d, key, nonce);
     let point = absorb(variant, d, at, header);
     let pair = remember(key, nonce);
@@ -428,12 +427,14 @@ pub(crate) fn start(
         current: count,
         initial: count,
     };
-    e.current = point;
-    e.initial = point;
-    e.pair = pair;
-    e.mac = mac;
-    e.steps = steps;
-    e
+    SparkleEngine {
+        variant,
+        current: point,
+        initial: point,
+        pair,
+        mac,
+        steps,
+    }
 }
 
 // ---- the end

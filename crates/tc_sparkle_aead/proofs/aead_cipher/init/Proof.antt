@@ -1,6 +1,6 @@
 -- `init` goes by its check; a start that passes has the variant's lengths.
 use mathlib.Core.Path.{sym, _∙_}
-use Rattle.tc_sparkle_aead.proofs.StartCheckLaws.{startCheck-lengths, init-taken, init-refused}
+use Rattle.tc_sparkle_aead.proofs.StartCheckLaws.{startCheck-lengths, started-by-variant, init-taken, init-refused}
 use borrow.Author.Needs.{needs}
 use Rattle.tc_sparkle_aead.proofs.aead_cipher.init.Statement.{statement}
 use Rattle.tc_sparkle_aead.proofs.aead_cipher.init.Tie as tie
@@ -23,7 +23,8 @@ returns-2 c =
     let check = told .before .before in
     let s = check .before .before .before .before .before .before .args in
     init-taken (s .e) (s .direction) (s .key .now) (s .nonce .now) (s .size) (s .header .now) _ _ _
-    (check .before .repeats .ensures) (check .start-check .ensures) (told .enum-told .given .1) (c .start .ensures)
+    (check .before .repeats .ensures) (check .start-check .ensures) (told .enum-told .given .1)
+    (c .start .ensures ∙ started-by-variant (s .e) (s .direction) (s .key .now) (s .nonce .now) (s .header .now))
 
 pub init-spec : {M : Type 1} → statement M
 init-spec =

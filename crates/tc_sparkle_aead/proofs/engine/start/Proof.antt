@@ -1,5 +1,6 @@
 -- `start` loads the pair, absorbs the header and counts the steps.
 use native.Mathlib.Omega.{arith}
+use Rattle.tc_sparkle_aead.specs.Engine.{newEngine}
 use Rattle.tc_sparkle_aead.proofs.VariantLaws.{small}
 use Rattle.tc_sparkle_aead.proofs.StartCheckLaws.{started-is}
 use borrow.Author.Needs.{needs}
@@ -9,9 +10,10 @@ use Rattle.tc_sparkle_aead.proofs.engine.start.Tie as tie
 remember-requires : tie.Need-remember-requires
 remember-requires c κs =
     let s = c .before .before .before .before .before in
-    omega (arith, s .pre, small (s .args .e .variant))
+    omega (arith, s .pre, small (s .args .variant))
 
 returns : tie.Need-returns
+unfolding newEngine
 returns c =
     let steps = c .before in
     let big = steps .before in
@@ -20,7 +22,7 @@ returns c =
     let point = pair .before in
     let at = point .before in
     let s = at .before .before .before .before .args in
-    started-is (s .e) (s .d) (s .key .now) (s .nonce .now) (s .header .now) _ _ _ _ _ _ _ (at .start-point .ensures)
+    started-is (newEngine (s .variant)) (s .d) (s .key .now) (s .nonce .now) (s .header .now) _ _ _ _ _ _ _ (at .start-point .ensures)
     (point .absorb .ensures) (pair .remember .ensures) (mac .no-mac .ensures) (big .big-steps .ensures)
     (steps .header-steps .ensures) (c .wrapping-add-u64 .ensures)
 
