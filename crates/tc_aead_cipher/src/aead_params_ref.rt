@@ -9,10 +9,10 @@ use tc_sparkle_aead::engine::Started;
 use tc_sparkle_aead::phase::Direction;
 
 pub struct AeadParamsRef<'a> {
-    pub key: &'a [u8],
-    pub nonce: &'a [u8],
-    pub initial_aad: &'a [u8],
-    pub mac_size: usize,
+    key: &'a [u8],
+    nonce: &'a [u8],
+    initial_aad: &'a [u8],
+    mac_size: usize,
 }
 
 impl<'a> AeadParamsRef<'a> {

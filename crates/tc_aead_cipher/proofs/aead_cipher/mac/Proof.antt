@@ -1,6 +1,6 @@
 -- `tc_aead_cipher::aead_cipher::mac` meets its contract: a query of a lent engine.
 -- Assumes nothing.
-use Rattle.tc_aead_cipher.proofs.Lent.{tripleOf, givenOf, tables, entered, cited}
+use Rattle.tc_aead_cipher.proofs.Lent.{refl, tripleOf, givenOf, tables, entered, cited}
 use Rattle.tc_aead_cipher.proofs.Query.{query}
 use contract.Running.{tablesOf}
 use denote.Struct.Laws as LL
@@ -22,5 +22,5 @@ mac-spec 𝓤 H 𝓜 𝓖 𝓡 =
     (tables 𝓤 H 𝓜 𝓡 code.env .C) (tables 𝓤 H 𝓜 𝓡 code.env .Λ) name code.function (code.unfolded 𝓤 H 𝓜 𝓡)
     (query T.the-row T′.mir macOf g-def.name 𝓤 H (𝓖 .A) (givenOf 𝓤 H 𝓜 𝓖)
     (λ r v is. LL.lawful T.the-type T′.the-laws 𝓤 H (𝓖 .A) (givenOf 𝓤 H 𝓜 𝓖) .typed r _ is .0)
-    (tablesOf 𝓤 H 𝓜 (tables 𝓤 H 𝓜 𝓡 code.env))
+    (f.clauses 𝓤 H (𝓖 .A) (𝓜 .mem) (𝓡 .run)) (λ κs args gh r end. refl) (tablesOf 𝓤 H 𝓜 (tables 𝓤 H 𝓜 𝓡 code.env))
     (cited 𝓤 H (tripleOf 𝓤 H (𝓖 .A) g.signature (g.spec 𝓤 H (𝓖 .A) (𝓜 .mem) (𝓡 .run))) 𝓜 𝓡 code.env g-def.name g-def.routine code.calls-tc-sparkle-aead·aead-cipher·mac (g-thm.met 𝓤 H 𝓜 𝓖 𝓡)))

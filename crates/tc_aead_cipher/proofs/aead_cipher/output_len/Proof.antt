@@ -1,9 +1,8 @@
 -- `tc_aead_cipher::aead_cipher::output_len` meets its contract: a query of a lent engine and a length.
 -- Assumes nothing.
-use Rattle.tc_aead_cipher.proofs.Lent.{tripleOf, givenOf, tables, entered, cited}
+use Rattle.tc_aead_cipher.proofs.Lent.{refl, tripleOf, givenOf, tables, entered, cited}
 use Rattle.tc_aead_cipher.proofs.LengthQuery.{length-query}
 use contract.Running.{tablesOf}
-use denote.Enum.Laws as EL
 use Rattle.tc_sparkle_aead.specs.Engine.{outputLen}
 use Rattle.tc_sparkle_aead.proofs.aead_cipher.output_len as g
 use Rattle.tc_sparkle_aead.proofs.aead_cipher.output_len.Symbol as g-def
@@ -19,5 +18,5 @@ output-len-spec 𝓤 H 𝓜 𝓖 𝓡 =
     entered 𝓤 H (tripleOf 𝓤 H (𝓖 .A) f.signature (f.spec 𝓤 H (𝓖 .A) (𝓜 .mem) (𝓡 .run)))
     (tables 𝓤 H 𝓜 𝓡 code.env .C) (tables 𝓤 H 𝓜 𝓡 code.env .Λ) name code.function (code.unfolded 𝓤 H 𝓜 𝓡)
     (length-query outputLen g-def.name 𝓤 H (𝓖 .A) (givenOf 𝓤 H 𝓜 𝓖)
-    (tablesOf 𝓤 H 𝓜 (tables 𝓤 H 𝓜 𝓡 code.env))
+    (f.clauses 𝓤 H (𝓖 .A) (𝓜 .mem) (𝓡 .run)) (λ κs args gh r end. refl) (tablesOf 𝓤 H 𝓜 (tables 𝓤 H 𝓜 𝓡 code.env))
     (cited 𝓤 H (tripleOf 𝓤 H (𝓖 .A) g.signature (g.spec 𝓤 H (𝓖 .A) (𝓜 .mem) (𝓡 .run))) 𝓜 𝓡 code.env g-def.name g-def.routine code.calls-tc-sparkle-aead·aead-cipher·output-len (g-thm.met 𝓤 H 𝓜 𝓖 𝓡)))

@@ -7,7 +7,6 @@ use mathlib.Core.Path.{_∙_, ap}
 use mir.Val.{vstruct}
 use contract.Lifetimes.{Lfts}
 use contract.Running.{tablesOf}
-use denote.Ref.{NamedLft}
 use denote.Enum.Laws as EL
 use denote.Struct.Laws as LL
 use Rattle.tc_sparkle_aead.specs.Calls.{init as started}
