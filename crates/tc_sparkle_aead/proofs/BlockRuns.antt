@@ -9,7 +9,7 @@ use lib.Seq.{length-take-le, take-take, take-at, drop-at, drop-drop, drop-append
 use Rattle.schwaemm.specs.Blocks.{after, given}
 use Rattle.schwaemm.specs.Schwaemm.{Params, Sizes, mix, crypt, absorbBlock, messageBlock}
 use Rattle.schwaemm.proofs.Cut.{after-add, given-add, after-keeps}
-use Rattle.schwaemm.proofs.States.{stateLength, length-crypt, length-absorbBlock, length-messageBlock}
+use Rattle.schwaemm.proofs.States.{stateLength, length-absorbBlock, length-messageBlock}
 use Rattle.schwaemm.proofs.RoundTrip.{length-crypted-blocks}
 use Rattle.tc_sparkle_aead.specs.Engine.{inArray}
 use Rattle.tc_sparkle_aead.specs.Calls.{stateIn, putState}
@@ -68,9 +68,6 @@ module _ (p : Params) (step : List ℕ → List ℕ → List ℕ) (words t : Lis
       -- the state in the array now
       pub run-state : stateIn p v ≡ after (p .rate) step (count - left) (stateIn p words) t
       run-state = ap (stateIn p) (r .state) ∙ state-put p words _ (length-after (count - left))
-
-      pub run-length : length (stateIn p v) ≡ stateLength p
-      run-length = ap length run-state ∙ length-after (count - left)
 
       pub run-turn : 0 < left → (next : List ℕ) (n : ℕ) → n ≡ p .rate
           → next ≡ putState p v (step (stateIn p v) (take (p .rate) (drop pos t)))

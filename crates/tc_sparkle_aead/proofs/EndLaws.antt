@@ -21,7 +21,7 @@ use Rattle.tc_sparkle_aead.specs.declared.engine.Done.{Done}
 use Rattle.tc_sparkle_aead.specs.declared.engine.Mac.{Mac}
 use Rattle.tc_sparkle_aead.specs.Variant.{paramsOf}
 use Rattle.tc_sparkle_aead.specs.Engine.{zeros, inArray, noMac, currentKey}
-use Rattle.tc_sparkle_aead.specs.Calls.{stateIn, putState, heldCount, heldBytes, lastState, lastSteps, written, sealTag, sealLast, openBlock, receivedTag, openLast, openTag, ended, endedBy, readable, sealEnd, openEnd, openEndOutBy}
+use Rattle.tc_sparkle_aead.specs.Calls.{stateIn, putState, heldCount, heldBytes, lastState, lastSteps, written, sealTag, sealLast, openBlock, receivedTag, openLast, openTag, endedBy, readable, sealEnd, openEnd, openEndOutBy}
 use Rattle.tc_sparkle_aead.proofs.VariantLaws.{Small, sizes, small}
 use Rattle.tc_sparkle_aead.proofs.Fill.{length-zeros}
 use Rattle.tc_sparkle_aead.proofs.StateLaws.{all-inArray, state-put, put-state, length-stateIn}

@@ -1,6 +1,5 @@
 -- `load` is words that begin with the bytes asked for: of the input where the held bytes are all before them, else
 -- gathered.
-use native.Mathlib.Omega.{arith}
 use borrow.Author.Needs.{needs}
 use Rattle.tc_sparkle_aead.proofs.BlockRuns.{gathered, from-input, length-stream}
 use Rattle.tc_sparkle_aead.proofs.blocks.load.Statement.{statement}

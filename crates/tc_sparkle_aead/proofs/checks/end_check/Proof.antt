@@ -1,5 +1,4 @@
 -- `end_check` meets its contract: it hands on the answer that its check gave, and on an opening looks for a tag.
-use native.Mathlib.Omega.{arith}
 use mathlib.Core.Path.{sym, _∙_}
 use Rattle.tc_sparkle_aead.proofs.CheckLaws.{endCheck-refused, endCheck-unsized, endCheck-sealing, endCheck-short, endCheck-whole}
 use borrow.Author.Needs.{needs}

@@ -1,6 +1,6 @@
 -- `data_in` is the engine after data in phase Data, and writes what its blocks become.
 use mathlib.Core.Path.{_≡_, refl, ap₂, _∙_}
-use Prim.Native.Nat.{ℕ, _+_, _*_}
+use Prim.Native.Nat.{ℕ, _*_}
 use native.Mathlib.Omega.{arith}
 use lib.ListN.{length}
 use borrow.Author.Needs.{needs}
