@@ -74,10 +74,10 @@ pub(crate) fn in_array(bytes: &[u8]) -> [u8; 32]
     r
 }
 
-// n bytes of an array written to the output from `pos` on.
-pub(crate) fn put(output: &mut [u8], pos: usize, bytes: [u8; 64], n: usize)
-    requires { ⌜ (n ≤ 64) × (pos + n ≤ length (now output)) ⌝ }
-    ensures { λ _. ⌜ now (output .exit) ≡ paste (now (output .entry)) pos bytes n ⌝ }
+// n bytes of a slice written to the output from `pos` on.
+pub(crate) fn put(output: &mut [u8], pos: usize, bytes: &[u8], n: usize)
+    requires { ⌜ (n ≤ length (now bytes)) × (pos + n ≤ length (now output)) ⌝ }
+    ensures { λ _. ⌜ now (output .exit) ≡ paste (now (output .entry)) pos (now (bytes .entry)) n ⌝ }
 {
     let mut i = 0;
     while i < n {
@@ -113,18 +113,6 @@ fn store(variant: SparkleVariant, output: &mut [u8], pos: usize, words: [u32; 8]
         SparkleVariant::Schwaemm256_128 => put_words(output, pos, &words, 8),
         SparkleVariant::Schwaemm192_192 => put_words(output, pos, &words, 6),
         SparkleVariant::Schwaemm256_256 => put_words(output, pos, &words, 8),
-    }
-}
-
-// The same for a tag.
-pub(crate) fn put_tag(output: &mut [u8], pos: usize, tag: [u8; 32], n: usize)
-    requires { ⌜ (n ≤ 32) × (pos + n ≤ length (now output)) ⌝ }
-    ensures { λ _. ⌜ now (output .exit) ≡ paste (now (output .entry)) pos tag n ⌝ }
-{
-    let mut i = 0;
-    while i < n {
-        output[pos + i] = tag[i];
-        i += 1;
     }
 }
 

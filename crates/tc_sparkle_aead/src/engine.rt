@@ -487,8 +487,8 @@ pub(crate) fn seal_end(e: SparkleEngine, n: usize, output: &mut [u8]) -> Done
     let held = held_count(variant, phase, at.held);
     let bytes = blocks::crypt(variant, words, buffer, held);
     let tag = blocks::make_tag(variant, last_words(variant, words, buffer, held), key);
-    blocks::put(output, 0, bytes, held);
-    blocks::put_tag(output, held, tag, variant.tag_bytes());
+    blocks::put(output, 0, &bytes, held);
+    blocks::put(output, held, &tag, variant.tag_bytes());
     let mac = Mac {
         readable: true,
         bytes: tag,
@@ -521,14 +521,15 @@ pub(crate) fn open_end(e: SparkleEngine, n: usize, output: &mut [u8]) -> Done
     let tag = blocks::make_tag(variant, last_words(variant, words, plain, body), key);
     let steps = last_steps(variant, body);
     if blocks::same_tag(buffer, body, tag, size) {
-        blocks::put(output, 0, plain, body);
+        blocks::put(output, 0, &plain, body);
         let mac = Mac {
             readable: true,
             bytes: tag,
         };
         return ended(e, AeadResult::Ok(n), Direction::Decrypt, mac, steps);
     }
-    blocks::put(output, 0, [0u8; 64], body);
+    let zeros = [0u8; 64];
+    blocks::put(output, 0, &zeros, body);
     ended(
         e,
         AeadResult::Err(AeadError::AuthenticationFailed),

@@ -9,23 +9,23 @@ use Rattle.tc_sparkle_aead.proofs.blocks.put.Statement.{statement}
 use Rattle.tc_sparkle_aead.proofs.blocks.put.Tie as tie
 
 abbrev Inv-loop : tie.InvT-loop
-Inv-loop output₀ pos n bytes i₀ output i =
+Inv-loop output₀ pos bytes n i₀ output i =
     (i ≤ n) × (length output ≡ length output₀) × (output ≡ paste output₀ pos bytes i)
 
 abbrev μ-loop : tie.MeasureT-loop
-μ-loop output₀ pos n bytes i₀ output i = n - i
+μ-loop output₀ pos bytes n i₀ output i = n - i
 
 loop-holds : tie.Need-loop-holds Inv-loop μ-loop
-loop-holds c = (omega arith, refl, paste-zero (c .args .output .now) (c .args .pos) (c .args .t3))
+loop-holds c = (omega arith, refl, paste-zero (c .args .output .now) (c .args .pos) (c .args .bytes .now))
 
 loop-again : tie.Need-loop-again Inv-loop μ-loop
 loop-again c =
-    let s = c .before .before in
-    let i = c .before .loop .i in (
+    let s = c .before .before .before in
+    let i = c .before .before .loop .i in (
       omega arith,
-      length-set (c .before .loop .output) _ _ ∙ c .before .loop .inv .1,
-      rw (c .before .loop .inv .2, add-one i)
-          (paste-suc (s .args .output .now) (s .args .pos) (s .args .t3) i 0 (omega arith) (omega (arith, s .good .1 .1 .0 .1 .0 .1))),
+      length-set (c .before .before .loop .output) _ _ ∙ c .before .before .loop .inv .1,
+      rw (c .before .before .loop .inv .2, add-one i)
+          (paste-suc (s .args .output .now) (s .args .pos) (s .args .bytes .now) i 0 (omega arith) (omega arith)),
     )
 
 returns : tie.Need-returns Inv-loop μ-loop

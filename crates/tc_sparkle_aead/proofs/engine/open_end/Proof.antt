@@ -34,10 +34,10 @@ same-tag-requires : tie.Need-same-tag-requires
 same-tag-requires c κs = omega (arith, fits (c .before .before .before .before))
 
 put-requires : tie.Need-put-requires
-put-requires c κs = omega (arith, fits (c .before .before .before .before .before .before .before))
+put-requires c κs = omega (arith, fits (c .before .before .before .before .before .before .before .before))
 
 put-requires-2 : tie.Need-put-requires-2
-put-requires-2 c κs = omega (arith, fits (c .before .before .before .before .before .before .before))
+put-requires-2 c κs = omega (arith, fits (c .before .before .before .before .before .before .before .before))
 
 -- what is computed before the verdict's branch
 computed : (c : tie.After-same-tag)
@@ -59,7 +59,7 @@ computed c =
 returns : tie.Need-returns
 returns c =
     let put = c .before .before .before in
-    let branch = put .before .before in
+    let branch = put .before .before .before in
     let o = computed (branch .before) in (
       opened o _ _ (branch .if1 .taken) (c .ended .ensures),
       opened-out o _ _ (branch .if1 .taken) (put .put .ensures),
@@ -69,7 +69,7 @@ returns-2 : tie.Need-returns-2
 unfolding zeros
 returns-2 c =
     let put = c .before .before .before .before in
-    let branch = put .before .before in
+    let branch = put .before .before .before in
     let o = computed (branch .before) in (
       unopened o _ _ _ (branch .if1 .left) (c .before .no-mac .ensures) (c .ended2 .ensures),
       unopened-out o _ _ _ (branch .if1 .left) (put .put2 .ensures) refl,
@@ -87,10 +87,12 @@ open-end-spec =
     (λ c κs. search needs)
     (λ c κs. search needs)
     same-tag-requires
+    (λ c. search needs)
     put-requires
     (λ c κs. search needs)
     (λ c. search needs)
     returns
+    (λ c. search needs)
     put-requires-2
     (λ c κs. search needs)
     (λ c κs. search needs)

@@ -19,14 +19,14 @@ key-long s = search needs
 
 put-requires : tie.Need-put-requires
 put-requires c κs =
-    let counted = c .before .before .before .before in
+    let counted = c .before .before .before .before .before in
     let s = counted .before .before .before .before .before .before .before in
     omega (arith, counted .held-count .ensures, small (s .args .e .variant), s .pre)
 
-put-tag-requires : tie.Need-put-tag-requires
-put-tag-requires c κs =
-    let put = c .before .before .before .before in
-    let counted = put .before .before .before .before .before in
+put-requires-2 : tie.Need-put-requires-2
+put-requires-2 c κs =
+    let put = c .before .before .before .before .before in
+    let counted = put .before .before .before .before .before .before in
     let s = counted .before .before .before .before .before .before .before in
     omega (
       arith,
@@ -40,8 +40,8 @@ put-tag-requires c κs =
 returns : tie.Need-returns
 returns c =
     let tagged = c .before .before .before .before in
-    let put = tagged .before .before .before .before .before in
-    let made = put .before .before in
+    let put = tagged .before .before .before .before .before .before in
+    let made = put .before .before .before in
     let counted = made .before .before .before in
     let s = counted .before .before .before .before .before .before .before in
     let e = s .args .e in
@@ -50,7 +50,7 @@ returns c =
           (made .make-tag .ensures) _ _ _ (c .before .last-steps .ensures) (c .ended .ensures),
       sealed-out e (words-long s) (buffer-long s) (key-long s) _ held _ _ (made .before .last-words .ensures)
           (made .make-tag .ensures) _ _ _ _ _ (omega (arith, held, s .pre)) (made .before .before .crypt .ensures)
-          (put .put .ensures) (tagged .before .tag-bytes .ensures) (tagged .put-tag .ensures),
+          (put .put .ensures) (tagged .before .tag-bytes .ensures) (tagged .put2 .ensures),
     )
 
 pub seal-end-spec : {M : Type 1} → statement M
@@ -61,9 +61,11 @@ seal-end-spec =
     (λ c κs. search needs)
     (λ c κs. search needs)
     (λ c κs. search needs)
+    (λ c. search needs)
     put-requires
+    (λ c. search needs)
     (λ c κs. search needs)
-    put-tag-requires
+    put-requires-2
     (λ c κs. search needs)
     (λ c κs. search needs)
     (λ c. search needs)
