@@ -1,74 +1,27 @@
 // One call on the engine, and what came of it.
 use super::record;
 use super::record::Head;
+use host::reply;
+use host::reply::Reply;
 use tc_sparkle_aead::aead_cipher;
-use tc_sparkle_aead::aead_error::AeadError;
-use tc_sparkle_aead::aead_error::AeadResult;
-use tc_sparkle_aead::aead_init_error::AeadInitError;
-use tc_sparkle_aead::aead_init_error::AeadInitResult;
 use tc_sparkle_aead::engine;
 use tc_sparkle_aead::engine::Done;
 use tc_sparkle_aead::engine::SparkleEngine;
 use tc_sparkle_aead::phase::Direction;
 use tc_sparkle_aead::variant::SparkleVariant;
 
-// An answer by document 01: 0 and a count, or the refusal's number and its values.
-pub struct Answer {
-    pub code: u8,
-    pub first: usize,
-    pub second: usize,
-}
-
 // What a call answered, whether the whole output is as expected, and the engine afterwards.
 pub struct Played {
-    pub answer: Answer,
+    pub answer: Reply,
     pub output: bool,
     pub engine: SparkleEngine,
 }
 
-fn told(code: u8, first: usize, second: usize) -> Answer {
-    Answer {
-        code,
-        first,
-        second,
-    }
-}
-
-fn refusal(x: AeadError) -> Answer {
-    match x {
-        AeadError::OutputTooShort {
-            required,
-            available,
-        } => told(4, required, available),
-        AeadError::CiphertextTooShort { minimum, actual } => told(5, minimum, actual),
-        AeadError::AuthenticationFailed => told(6, 0, 0),
-        AeadError::InputTooLong => told(7, 0, 0),
-        AeadError::NotInitialized => told(8, 0, 0),
-        AeadError::AadAfterData => told(9, 0, 0),
-        AeadError::AlreadyFinalized => told(10, 0, 0),
-    }
-}
-
-fn start_refusal(x: AeadInitError) -> Answer {
-    match x {
-        AeadInitError::InvalidKeyLength { actual } => told(1, actual, 0),
-        AeadInitError::InvalidNonceLength { actual } => told(2, actual, 0),
-        AeadInitError::InvalidMacSize { actual } => told(3, actual, 0),
-        AeadInitError::NonceReuse => told(11, 0, 0),
-    }
-}
-
-fn answer_of(r: AeadResult) -> Answer {
-    match r {
-        AeadResult::Ok(n) => told(0, n, 0),
-        AeadResult::Err(x) => refusal(x),
-    }
-}
-
-fn start_answer_of(r: AeadInitResult) -> Answer {
-    match r {
-        AeadInitResult::Ok => told(0, 0, 0),
-        AeadInitResult::Err(x) => start_refusal(x),
+fn count(n: usize) -> Reply {
+    Reply {
+        number: 0,
+        first: n,
+        second: 0,
     }
 }
 
@@ -93,14 +46,14 @@ fn outcome(d: Done, output: bool) -> Played {
     let r = d.answer;
     let e = d.engine;
     Played {
-        answer: answer_of(r),
+        answer: reply::reply_of(r),
         output,
         engine: e,
     }
 }
 
 // A call that leaves the engine as it is.
-fn asked(e: SparkleEngine, a: Answer) -> Played {
+fn asked(e: SparkleEngine, a: Reply) -> Played {
     Played {
         answer: a,
         output: true,
@@ -113,7 +66,7 @@ fn init(e: SparkleEngine, h: Head, key: &[u8], nonce: &[u8], header: &[u8]) -> P
     let r = s.answer;
     let next = s.engine;
     Played {
-        answer: start_answer_of(r),
+        answer: reply::start_reply_of(r),
         output: true,
         engine: next,
     }
@@ -166,8 +119,8 @@ pub fn same_tag(e: SparkleEngine, expected: &[u8]) -> bool {
     record::same(record::first(&bytes, n), expected)
 }
 
-pub fn same_answer(a: Answer, h: Head) -> bool {
-    if a.code == h.code {
+pub fn same_answer(a: Reply, h: Head) -> bool {
+    if a.number == h.code {
         if a.first == h.first {
             a.second == h.second
         } else {
@@ -193,9 +146,12 @@ pub fn play(
         2 => outcome(aead_cipher::process_aad_bytes(e, input), true),
         3 => data(e, h.fill, input, expected),
         4 => end(e, h.fill, expected),
-        5 => asked(aead_cipher::reset(e), told(0, 0, 0)),
-        6 => asked(e, told(0, tag_len(e), 0)),
-        7 => asked(e, answer_of(aead_cipher::update_output_len(e, h.number))),
-        _ => asked(e, answer_of(aead_cipher::output_len(e, h.number))),
+        5 => asked(aead_cipher::reset(e), count(0)),
+        6 => asked(e, count(tag_len(e))),
+        7 => asked(
+            e,
+            reply::reply_of(aead_cipher::update_output_len(e, h.number)),
+        ),
+        _ => asked(e, reply::reply_of(aead_cipher::output_len(e, h.number))),
     }
 }

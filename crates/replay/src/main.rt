@@ -4,8 +4,8 @@
 mod calls;
 mod record;
 
-use calls::Answer;
 use calls::Played;
+use host::reply::Reply;
 use libc::STDOUT_FILENO;
 use record::Head;
 use tc_sparkle_aead::engine;
@@ -83,7 +83,7 @@ fn say_answer(text: &[u8], code: u8, first: usize, second: usize) {
 }
 
 // Says what differs, and answers how many calls do: 0 or 1.
-fn compare(run: Run, h: Head, a: Answer, output: bool, tag: bool) -> u64 {
+fn compare(run: Run, h: Head, a: Reply, output: bool, tag: bool) -> u64 {
     let answer = calls::same_answer(a, h);
     if answer && output && tag {
         return 0;
@@ -92,7 +92,7 @@ fn compare(run: Run, h: Head, a: Answer, output: bool, tag: bool) -> u64 {
     say_number(b" call ", run.call);
     say_number(b" kind ", h.kind as u64);
     if !answer {
-        say_answer(b": answer ", a.code, a.first, a.second);
+        say_answer(b": answer ", a.number, a.first, a.second);
         say_answer(b", expected ", h.code, h.first, h.second);
     }
     if !output {
