@@ -13,6 +13,7 @@ use Rattle.schwaemm.specs.Schwaemm.{Params, messageBlock, crypt}
 use Rattle.tc_sparkle_aead.specs.Variant.{paramsOf}
 use Rattle.tc_sparkle_aead.specs.declared.phase.Phase.{Phase}
 use Rattle.tc_sparkle_aead.specs.declared.engine.Point.{Point}
+use Rattle.tc_sparkle_aead.specs.declared.engine.Progress.{Progress}
 use Rattle.tc_sparkle_aead.specs.declared.phase.Phase.the-variants.{Uninitialized, Init, Aad, Data, Final}
 use Rattle.tc_sparkle_aead.specs.declared.phase.Direction.{Direction}
 use Rattle.tc_sparkle_aead.specs.declared.aead_error.AeadError.{AeadError}
@@ -21,9 +22,10 @@ use Rattle.tc_sparkle_aead.specs.declared.aead_error.AeadResult.{AeadRes
 use Rattle.tc_sparkle_aead.specs.declared.aead_error.AeadResult.the-variants.{Ok, Err}
 use Rattle.tc_sparkle_aead.specs.declared.engine.SparkleEngine.{SparkleEngine}
 use Rattle.tc_sparkle_aead.specs.Checks.{keep, heldIn, then, room, updateLen, dataCheck}
-use Rattle.tc_sparkle_aead.specs.Calls.{stateIn, heldCount, blocks, plainOf, streamOut, written, atPoint, withoutHeader, afterHeader, beginBy, beginData, dataIn, dataOut, dataBy, dataOutBy, dataAnswer, processBytes, processBytesOut}
+use Rattle.tc_sparkle_aead.specs.Calls.{stateIn, heldCount, blocks, plainOf, streamOut, written, atPoint, withoutHeader, afterHeader, begun, begunSteps, beginBy, beginData, dataFrom, dataIn, dataOut, dataBy, dataOutBy, dataAnswer, processBytes, processBytesOut}
 use Rattle.tc_sparkle_aead.proofs.Fill.{length-zeros}
-use Rattle.tc_sparkle_aead.proofs.VariantLaws.{Small, small}
+use Rattle.tc_sparkle_aead.proofs.VariantLaws.{Small}
+use Rattle.tc_sparkle_aead.proofs.BeginLaws.{begin-at, begin-current, begin-variant}
 use Rattle.tc_sparkle_aead.proofs.CallLaws.{stream-is, length-stream}
 
 module _ (p : Params) (small : Small p) (k : ℕ) (at : Point) (input : List ℕ) (long : length (at .buffer) ≡ 64) (h : ℕ)
@@ -71,25 +73,25 @@ blocks-in p small k h at input long e =
 none-held : (p : Params) (d : Direction) → heldCount p (Data d) 0 ≡ 0
 none-held p d = omega arith
 
-pub data-room : (phase : Phase) (e : SparkleEngine) → e .current .phase ≡ phase → length (e .current .buffer) ≡ 64 → (input : List ℕ) (available n : ℕ) → dataCheck (paramsOf (e .variant)) phase (e .current .held) (length input) available ≡ Ok n → blocks (paramsOf (beginBy phase e .variant)) (keep (paramsOf (beginBy phase e .variant)) (beginBy phase e .current .phase)) (beginBy phase e .current) input * paramsOf (beginBy phase e .variant) .rate ≤ available
-unfolding dataCheck atPoint withoutHeader afterHeader
-data-room Uninitialized e q long input available n ok = absurd (let z : _≡_ {A = ℕ} 0 1 = cc in omega arith)
-data-room (Init d) e q long input available n ok =
-    let p = paramsOf (e .variant) in
-    rw (blocks-in p (small (e .variant)) (keep p (Data d)) 0 (withoutHeader d (e .current)) input (length-zeros 64) (none-held p d))
-    (update-room p (Init d) (e .current .held) (length input) available n ok)
-data-room (Aad d) e q long input available n ok =
-    let p = paramsOf (e .variant) in
-    rw (blocks-in p (small (e .variant)) (keep p (Data d)) 0 (afterHeader p d (e .current)) input (length-zeros 64) (none-held p d))
-    (update-room p (Aad d) (e .current .held) (length input) available n ok)
-data-room (Data d) e q long input available n ok =
-    let p = paramsOf (e .variant) in
-    let count : blocks p (keep p (e .current .phase)) (e .current) input ≡ ready (p .rate) (keep p (Data d)) (heldIn p (Data d) (e .current .held) + length input) =
-    ap (λ (k : ℕ). blocks p k (e .current) input) (ap (keep p) q)
-    ∙ blocks-in p (small (e .variant)) (keep p (Data d)) (heldIn p (Data d) (e .current .held)) (e .current) input long
-    (ap (λ (ph : Phase). heldCount p ph (e .current .held)) q) in
-    rw count (update-room p (Data d) (e .current .held) (length input) available n ok)
-data-room (Final d) e q long input available n ok = absurd (let z : _≡_ {A = ℕ} 0 1 = cc in omega arith)
+-- the point where the data begins has room for its blocks
+pub data-room : (p : Params) → Small p → (phase : Phase) (at : Point) → at .phase ≡ phase → length (at .buffer) ≡ 64
+    → (input : List ℕ) (available n : ℕ) → dataCheck p phase (at .held) (length input) available ≡ Ok n
+    → blocks p (keep p (begun p phase at .phase)) (begun p phase at) input * p .rate ≤ available
+unfolding dataCheck withoutHeader afterHeader
+data-room p f Uninitialized at q long input available n ok = absurd (let z : _≡_ {A = ℕ} 0 1 = cc in omega arith)
+data-room p f (Init d) at q long input available n ok =
+    rw (blocks-in p f (keep p (Data d)) 0 (withoutHeader d at) input (length-zeros 64) (none-held p d))
+    (update-room p (Init d) (at .held) (length input) available n ok)
+data-room p f (Aad d) at q long input available n ok =
+    rw (blocks-in p f (keep p (Data d)) 0 (afterHeader p d at) input (length-zeros 64) (none-held p d))
+    (update-room p (Aad d) (at .held) (length input) available n ok)
+data-room p f (Data d) at q long input available n ok =
+    let count : blocks p (keep p (at .phase)) at input ≡ ready (p .rate) (keep p (Data d)) (heldIn p (Data d) (at .held) + length input) =
+    ap (λ (k : ℕ). blocks p k at input) (ap (keep p) q)
+    ∙ blocks-in p f (keep p (Data d)) (heldIn p (Data d) (at .held)) at input long
+    (ap (λ (ph : Phase). heldCount p ph (at .held)) q) in
+    rw count (update-room p (Data d) (at .held) (length input) available n ok)
+data-room p f (Final d) at q long input available n ok = absurd (let z : _≡_ {A = ℕ} 0 1 = cc in omega arith)
 
 -- a data call by its check: refused, and taken
 module _ (e : SparkleEngine) (input out : List ℕ) (answer : AeadResult)
@@ -103,16 +105,34 @@ module _ (e : SparkleEngine) (input out : List ℕ) (answer : AeadResult)
   unfolding processBytesOut
   data-refused-out x told = ap (λ (k : AeadResult). dataOutBy k e input out) (sym told ∙ checked)
 
-  module _ (n : ℕ) (told : answer ≡ Ok n) (begun : SparkleEngine) (begins : begun ≡ beginData e) where
-    pub data-taken : (engine : SparkleEngine) → engine ≡ dataIn begun input
-        → record { answer = answer; engine = engine } ≡ processBytes e input out
-    unfolding processBytes
-    data-taken engine en =
-        (λ i. record { answer = told i; engine = (en ∙ ap (λ (x : SparkleEngine). dataIn x input) begins) i })
-        ∙ ap (λ (k : AeadResult). dataBy k e input) (sym told ∙ checked)
+  module _ (n : ℕ) (told : answer ≡ Ok n) (at : Point)
+      (begins : at ≡ begun (paramsOf (e .variant)) (e .current .phase) (e .current)) where
+    -- the point of the engine in which the data begins, and its parameters
+    point-is : at ≡ beginData e .current
+    unfolding beginData
+    point-is = begins ∙ sym (begin-current e (e .current .phase))
 
-    pub data-taken-out : (out₁ : List ℕ) → out₁ ≡ written (dataOut begun input) out → out₁ ≡ processBytesOut e input out
-    unfolding processBytesOut
+    params-are : paramsOf (e .variant) ≡ paramsOf (beginData e .variant)
+    unfolding beginData
+    params-are = sym (ap paramsOf (begin-variant e (e .current .phase)))
+
+    pub data-taken : (first : ℕ) → first ≡ begunSteps (paramsOf (e .variant)) (e .current .phase) → (x : Point)
+        (done : Progress) → done ≡ dataFrom (paramsOf (e .variant)) at input → (engine : SparkleEngine)
+        → engine ≡ atPoint (atPoint e x first) (done .point) (done .steps)
+        → record { answer = answer; engine = engine } ≡ processBytes e input out
+    unfolding processBytes dataIn beginData
+    data-taken first ef x done ed engine en =
+        let r = dataFrom (paramsOf (beginData e .variant)) (beginData e .current) input in
+        let to : done ≡ r = ed ∙ ap₂ (λ (p : Params) (y : Point). dataFrom p y input) params-are point-is in
+        let moved =
+        en ∙ ap (λ (k : ℕ). atPoint (atPoint e x k) (done .point) (done .steps)) ef
+        ∙ begin-at e (e .current .phase) x (done .point) (done .steps)
+        ∙ ap (λ (y : Progress). atPoint (beginBy (e .current .phase) e) (y .point) (y .steps)) to in
+        (λ i. record { answer = told i; engine = moved i }) ∙ ap (λ (k : AeadResult). dataBy k e input) (sym told ∙ checked)
+
+    pub data-taken-out : (out₁ : List ℕ) → out₁ ≡ written (streamOut (paramsOf (e .variant)) at input) out
+        → out₁ ≡ processBytesOut e input out
+    unfolding processBytesOut dataOut
     data-taken-out out₁ eo =
-        eo ∙ ap (λ (x : SparkleEngine). written (dataOut x input) out) begins
+        eo ∙ ap₂ (λ (p : Params) (y : Point). written (streamOut p y input) out) params-are point-is
         ∙ ap (λ (k : AeadResult). dataOutBy k e input out) (sym told ∙ checked)

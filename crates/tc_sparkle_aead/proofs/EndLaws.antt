@@ -12,16 +12,13 @@ use Rattle.schwaemm.specs.Bytes.{ifEmpty, same}
 use Rattle.schwaemm.specs.Schwaemm.{Params, Sizes, crypt, mixLast, tagOf}
 use Rattle.schwaemm.proofs.States.{stateLength, length-crypt, length-mixLast}
 use Rattle.schwaemm.proofs.RoundTrip.{length-tagOf}
-use Rattle.tc_sparkle_aead.specs.declared.phase.Direction.the-variants.{Encrypt, Decrypt}
-use Rattle.tc_sparkle_aead.specs.declared.aead_error.AeadError.the-variants.{AuthenticationFailed}
-use Rattle.tc_sparkle_aead.specs.declared.aead_error.AeadResult.the-variants.{Ok, Err}
 use Rattle.tc_sparkle_aead.specs.declared.engine.Point.{Point}
 use Rattle.tc_sparkle_aead.specs.declared.engine.SparkleEngine.{SparkleEngine}
-use Rattle.tc_sparkle_aead.specs.declared.engine.Done.{Done}
+use Rattle.tc_sparkle_aead.specs.declared.engine.End.{End}
 use Rattle.tc_sparkle_aead.specs.declared.engine.Mac.{Mac}
 use Rattle.tc_sparkle_aead.specs.Variant.{paramsOf}
 use Rattle.tc_sparkle_aead.specs.Engine.{zeros, inArray, noMac, currentKey}
-use Rattle.tc_sparkle_aead.specs.Calls.{stateIn, putState, heldCount, heldBytes, lastState, lastSteps, written, sealTag, sealLast, openBlock, receivedTag, openLast, openTag, endedBy, readable, sealEnd, openEnd, openEndOutBy}
+use Rattle.tc_sparkle_aead.specs.Calls.{stateIn, putState, heldCount, heldBytes, lastState, lastSteps, written, sealTag, sealLast, openBlock, receivedTag, openLast, openTag, readable, sealedEnd, openedEnd, openEndOutBy}
 use Rattle.tc_sparkle_aead.proofs.VariantLaws.{Small, sizes, small}
 use Rattle.tc_sparkle_aead.proofs.Fill.{length-zeros}
 use Rattle.tc_sparkle_aead.proofs.StateLaws.{all-inArray, state-put, put-state, length-stateIn}
@@ -143,11 +140,11 @@ module _ (e : SparkleEngine) (hw : length (e .current .words) ≡ 16) (hb : leng
       tag-last p (sizes (e .variant)) (small (e .variant)) (e .current .words) hw (take (p .key) (e .pair .key)) _ _ words
       tag (rw (held-is p (e .current) held eh) at ew) et
 
-  pub sealed : (n steps : ℕ) (done : Done) → steps ≡ cond (ltb 0 held) (paramsOf (e .variant) .big) 0
-      → done ≡ endedBy e (Ok n) Encrypt (record { readable = true; bytes = tag }) steps → done ≡ sealEnd e n
-  unfolding sealEnd endedBy readable lastSteps
-  sealed n steps done es ee =
-      ee ∙ rw (tag-sealed, es, length-held (paramsOf (e .variant)) (e .current) held eh (small (e .variant)) hb)
+  pub sealed : (steps : ℕ) → steps ≡ cond (ltb 0 held) (paramsOf (e .variant) .big) 0
+      → _≡_ {A = End} (record { mac = record { readable = true; bytes = tag }; steps = steps }) (sealedEnd e)
+  unfolding readable lastSteps
+  sealed steps es =
+      rw (tag-sealed, es, length-held (paramsOf (e .variant)) (e .current) held eh (small (e .variant)) hb) refl
 
   pub sealed-out : (bytes out out₁ out₂ : List ℕ) (k : ℕ) → held ≤ paramsOf (e .variant) .rate
       → bytes
@@ -260,10 +257,11 @@ take-zeros (suc n) (suc m) h = ap (_∷_ 0) (take-zeros n m (omega arith))
 module _ {e : SparkleEngine} {body steps : ℕ} {plain tag : List ℕ} {equal : Bool}
     (o : Opening e body plain tag steps equal) where
   -- the received tag is right
-  pub opened : (n : ℕ) (done : Done) → equal ≡ true
-      → done ≡ endedBy e (Ok n) Decrypt (record { readable = true; bytes = tag }) steps → done ≡ openEnd e n
-  unfolding openEnd endedBy readable
-  opened n done right ee = rw (sym (o .verdict) ∙ right) (ee ∙ rw (o .mac, o .run))
+  pub opened : equal ≡ true
+      → _≡_ {A = End} (record { mac = record { readable = true; bytes = tag }; steps = steps })
+      (openedEnd (same (receivedTag e) (openTag e)) e)
+  unfolding readable
+  opened right = rw (sym (o .verdict) ∙ right, o .mac, o .run) refl
 
   pub opened-out : (out out₁ : List ℕ) → equal ≡ true → out₁ ≡ paste out 0 plain body
       → out₁ ≡ written (openEndOutBy (same (receivedTag e) (openTag e)) e) out
@@ -271,10 +269,9 @@ module _ {e : SparkleEngine} {body steps : ℕ} {plain tag : List ℕ} {equal : 
       rw (sym (o .verdict) ∙ right) (e₁ ∙ paste-front out plain (openLast e) body (o .bytes) (o .last))
 
   -- it is wrong
-  pub unopened : (n : ℕ) (done : Done) (mac : Mac) → equal ≡ false → mac ≡ noMac
-      → done ≡ endedBy e (Err AuthenticationFailed) Decrypt mac steps → done ≡ openEnd e n
-  unfolding openEnd endedBy
-  unopened n done mac wrong em ee = rw (sym (o .verdict) ∙ wrong) (ee ∙ rw (em, o .run))
+  pub unopened : (mac : Mac) → equal ≡ false → mac ≡ noMac
+      → _≡_ {A = End} (record { mac = mac; steps = steps }) (openedEnd (same (receivedTag e) (openTag e)) e)
+  unopened mac wrong em = rw (sym (o .verdict) ∙ wrong, em, o .run) refl
 
   pub unopened-out : (out out₁ bytes : List ℕ) → equal ≡ false → out₁ ≡ paste out 0 bytes body → bytes ≡ zeros 64
       → out₁ ≡ written (openEndOutBy (same (receivedTag e) (openTag e)) e) out

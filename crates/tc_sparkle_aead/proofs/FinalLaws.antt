@@ -10,16 +10,22 @@ use borrow.Author.Tests.{ltb-false}
 use lib.ListN.{length}
 use Rattle.schwaemm.specs.Bytes.{same}
 use Rattle.schwaemm.specs.Schwaemm.{Params}
+use Rattle.tc_sparkle_aead.specs.declared.phase.Direction.{Direction}
+use Rattle.tc_sparkle_aead.specs.declared.phase.Direction.the-variants.{Encrypt, Decrypt}
 use Rattle.tc_sparkle_aead.specs.declared.phase.Phase.{Phase}
 use Rattle.tc_sparkle_aead.specs.declared.phase.Phase.the-variants.{Uninitialized, Init, Aad, Data, Final}
 use Rattle.tc_sparkle_aead.specs.declared.aead_error.AeadError.{AeadError}
 use Rattle.tc_sparkle_aead.specs.declared.aead_error.AeadResult.{AeadResult}
 use Rattle.tc_sparkle_aead.specs.declared.aead_error.AeadResult.the-variants.{Ok, Err}
+use Rattle.tc_sparkle_aead.specs.declared.engine.Point.{Point}
+use Rattle.tc_sparkle_aead.specs.declared.engine.End.{End}
 use Rattle.tc_sparkle_aead.specs.declared.engine.Done.{Done}
 use Rattle.tc_sparkle_aead.specs.declared.engine.SparkleEngine.{SparkleEngine}
 use Rattle.tc_sparkle_aead.specs.Variant.{paramsOf}
 use Rattle.tc_sparkle_aead.specs.Checks.{opening, keep, heldIn, then, within64, room, phaseCheck, totalLen, whole, endCheck}
-use Rattle.tc_sparkle_aead.specs.Calls.{heldCount, atPoint, withoutHeader, afterHeader, beginBy, beginData, written, sealLast, sealTag, sealEnd, receivedTag, openTag, openEnd, openEndOutBy, finalBy, finalOutBy, finalAnswer, doFinal, doFinalOut}
+use Rattle.tc_sparkle_aead.specs.Engine.{noMac, currentKey}
+use Rattle.tc_sparkle_aead.specs.Calls.{heldCount, atPoint, begun, begunSteps, beginData, written, messageAt, sealLast, sealTag, sealEnd, openBlock, openLast, receivedTag, openTag, ended, endedBy, readable, answered, sealedEnd, openedEnd, openEnd, openEndBy, openEndOutBy, finalBy, finalOutBy, finalAnswer, doFinal, doFinalOut}
+use Rattle.tc_sparkle_aead.proofs.BeginLaws.{begun-held, begin-ended, begin-message}
 
 -- ---- A check that passes.
 
@@ -91,97 +97,143 @@ module _ (p : Params) (phase : Phase) (held available n : ℕ) (passed : endChec
   opening-whole : opening phase ≡ true → p .key ≤ heldIn p phase held
   opening-whole opens = whole-passed (heldIn p phase held) (p .key) _ n (rw opens at (parts .two))
 
--- ---- The engine in which the data has begun.
-
-begin-variant : (phase : Phase) (e : SparkleEngine) → beginBy phase e .variant ≡ e .variant
-unfolding atPoint
-begin-variant Uninitialized e = refl
-begin-variant (Init d) e = refl
-begin-variant (Aad d) e = refl
-begin-variant (Data d) e = refl
-begin-variant (Final d) e = refl
-
-begin-held : (p : Params) (phase : Phase) (e : SparkleEngine) → e .current .phase ≡ phase
-    → heldCount p (beginBy phase e .current .phase) (beginBy phase e .current .held) ≡ heldIn p phase (e .current .held)
-unfolding atPoint withoutHeader afterHeader
-begin-held p Uninitialized e is = rw is refl
-begin-held p (Init d) e is = omega arith
-begin-held p (Aad d) e is = omega arith
-begin-held p (Data d) e is = rw is refl
-begin-held p (Final d) e is = rw is refl
-
 -- ---- The call.
 
--- the check has passed with n, the data has begun, and the direction is told
-pub record Taken (e begun : SparkleEngine) (out : List ℕ) (n : ℕ) (opens : Bool) : Type 0 where
+-- the end of an opening gives its tag, and a readable one where the received tag is right
+open-end-by : (right : Bool) (e : SparkleEngine) (n : ℕ)
+    → endedBy e (answered (Ok n) (openedEnd right e .mac)) Decrypt (openedEnd right e .mac) (openedEnd right e .steps)
+    ≡ openEndBy right e n
+unfolding endedBy readable noMac
+open-end-by true e n = refl
+open-end-by false e n = refl
+
+-- it depends on the message alone
+module _ (e : SparkleEngine) where
+  opened-message : (right : Bool) → openedEnd right (messageAt (e .variant) (e .current) (e .pair .key)) ≡ openedEnd right e
+  unfolding openTag openLast openBlock currentKey
+  opened-message true = refl
+  opened-message false = refl
+
+  opened-out-message : (right : Bool)
+      → openEndOutBy right (messageAt (e .variant) (e .current) (e .pair .key)) ≡ openEndOutBy right e
+  unfolding openLast openBlock
+  opened-out-message true = refl
+  opened-out-message false = refl
+
+-- the check has passed with n, the data begins at a point, and the direction is told
+pub record Taken (e : SparkleEngine) (at : Point) (out : List ℕ) (n : ℕ) (opens : Bool) : Type 0 where
   pub passed : finalAnswer e (length out) ≡ Ok n
-  pub begins : begun ≡ beginData e
+  pub begins : at ≡ begun (paramsOf (e .variant)) (e .current .phase) (e .current)
   pub direction : opens ≡ opening (e .current .phase)
 
-module _ {e begun : SparkleEngine} {out : List ℕ} {n : ℕ} {opens : Bool} (t : Taken e begun out n opens) where
-  same-params : paramsOf (begun .variant) ≡ paramsOf (e .variant)
-  unfolding beginData
-  same-params = rw (t .begins, begin-variant (e .current .phase) e) refl
-
-  same-held : heldCount (paramsOf (begun .variant)) (begun .current .phase) (begun .current .held)
+module _ {e : SparkleEngine} {at : Point} {out : List ℕ} {n : ℕ} {opens : Bool} (t : Taken e at out n opens) where
+  same-held : heldCount (paramsOf (e .variant)) (at .phase) (at .held)
       ≡ heldIn (paramsOf (e .variant)) (e .current .phase) (e .current .held)
-  unfolding beginData
-  same-held = rw (same-params, t .begins) (begin-held (paramsOf (e .variant)) (e .current .phase) e refl)
+  same-held = rw (t .begins) (begun-held (paramsOf (e .variant)) (e .current .phase) (e .current) refl)
 
   bound : heldIn (paramsOf (e .variant)) (e .current .phase) (e .current .held)
       ≤ keep (paramsOf (e .variant)) (e .current .phase) + paramsOf (e .variant) .rate
   bound = heldIn-bound (paramsOf (e .variant)) (e .current .phase) (e .current .held)
+
+  -- the engine in which the data begins, as far as an end depends on it
+  message-is : messageAt (e .variant) at (e .pair .key)
+      ≡ messageAt (beginData e .variant) (beginData e .current) (beginData e .pair .key)
+  unfolding beginData
+  message-is =
+      ap (λ (x : Point). messageAt (e .variant) x (e .pair .key)) (t .begins) ∙ sym (begin-message e (e .current .phase))
+
+  -- an engine that has ended, by what the end gave
+  ended-is : (answer : AeadResult) → answer ≡ Ok n → (first : ℕ)
+      → first ≡ begunSteps (paramsOf (e .variant)) (e .current .phase) → (x : Point) (d : Direction) (end end′ : End)
+      → end ≡ end′
+      → endedBy (atPoint e x first) (answered answer (end .mac)) d (end .mac) (end .steps)
+      ≡ endedBy (beginData e) (answered (Ok n) (end′ .mac)) d (end′ .mac) (end′ .steps)
+  unfolding endedBy beginData
+  ended-is answer told first ef x d end end′ ee =
+      let begins =
+      ap (λ (k : ℕ). ended (atPoint e x k) d (end′ .mac) (end′ .steps)) ef
+      ∙ begin-ended e (e .current .phase) x d (end′ .mac) (end′ .steps) in
+      ap (λ (y : End). endedBy (atPoint e x first) (answered answer (y .mac)) d (y .mac) (y .steps)) ee
+      ∙ (λ i. record { answer = answered (told i) (end′ .mac); engine = begins i })
 
   -- a sealing
   module _ (seals : opens ≡ false) where
     sealing : opening (e .current .phase) ≡ false
     sealing = sym (t .direction) ∙ seals
 
-    pub seal-fits : (heldCount (paramsOf (begun .variant)) (begun .current .phase) (begun .current .held)
-        ≤ paramsOf (begun .variant) .rate)
-        × (heldCount (paramsOf (begun .variant)) (begun .current .phase) (begun .current .held)
-        + paramsOf (begun .variant) .key
-        ≤ length out)
+    pub seal-fits : (heldCount (paramsOf (e .variant)) (at .phase) (at .held) ≤ paramsOf (e .variant) .rate)
+        × (heldCount (paramsOf (e .variant)) (at .phase) (at .held) + paramsOf (e .variant) .key ≤ length out)
     seal-fits =
-        rw (same-held, same-params) (
+        rw same-held (
           omega (arith, rw sealing at bound),
           sealing-room (paramsOf (e .variant)) (e .current .phase) (e .current .held) (length out) n (t .passed) sealing,
         )
 
-    pub final-sealed : (done : Done) → done ≡ sealEnd begun n → done ≡ doFinal e out
-    unfolding doFinal
-    final-sealed done ed = rw (t .passed, sealing, ← t .begins) ed
+    pub final-sealed : (answer : AeadResult) → answer ≡ Ok n → (first : ℕ)
+        → first ≡ begunSteps (paramsOf (e .variant)) (e .current .phase) → (x : Point) (end : End)
+        → end ≡ sealedEnd (messageAt (e .variant) at (e .pair .key)) → (done : Done)
+        → done ≡ endedBy (atPoint e x first) (answered answer (end .mac)) Encrypt (end .mac) (end .steps)
+        → done ≡ doFinal e out
+    unfolding doFinal sealEnd endedBy sealTag currentKey readable
+    final-sealed answer told first ef x end ee done ed =
+        rw (t .passed, sealing)
+        (ed ∙ ended-is answer told first ef x Encrypt end (sealedEnd (beginData e)) (ee ∙ ap sealedEnd message-is))
 
-    pub final-sealed-out : (out₁ : List ℕ) → out₁ ≡ written (sealLast begun ++ sealTag begun) out → out₁ ≡ doFinalOut e out
-    unfolding doFinalOut
-    final-sealed-out out₁ ed = rw (t .passed, sealing, ← t .begins) ed
+    pub final-sealed-out : (out₁ : List ℕ)
+        → out₁
+        ≡ written
+        (sealLast (messageAt (e .variant) at (e .pair .key)) ++ sealTag (messageAt (e .variant) at (e .pair .key))) out
+        → out₁ ≡ doFinalOut e out
+    unfolding doFinalOut sealLast sealTag currentKey
+    final-sealed-out out₁ ed =
+        rw (t .passed, sealing) (ed ∙ ap (λ (m : SparkleEngine). written (sealLast m ++ sealTag m) out) message-is)
 
   -- an opening
   module _ (is-opening : opens ≡ true) where
     opened : opening (e .current .phase) ≡ true
     opened = sym (t .direction) ∙ is-opening
 
-    pub open-fits : (paramsOf (begun .variant) .key
-        ≤ heldCount (paramsOf (begun .variant)) (begun .current .phase) (begun .current .held))
-        × (heldCount (paramsOf (begun .variant)) (begun .current .phase) (begun .current .held)
-        ≤ paramsOf (begun .variant) .rate + paramsOf (begun .variant) .key)
-        × (heldCount (paramsOf (begun .variant)) (begun .current .phase) (begun .current .held)
-        ≤ length out + paramsOf (begun .variant) .key)
+    pub open-fits : (paramsOf (e .variant) .key ≤ heldCount (paramsOf (e .variant)) (at .phase) (at .held))
+        × (heldCount (paramsOf (e .variant)) (at .phase) (at .held) ≤ paramsOf (e .variant) .rate + paramsOf (e .variant) .key)
+        × (heldCount (paramsOf (e .variant)) (at .phase) (at .held) ≤ length out + paramsOf (e .variant) .key)
     open-fits =
-        rw (same-held, same-params) (
+        rw same-held (
           opening-whole (paramsOf (e .variant)) (e .current .phase) (e .current .held) (length out) n (t .passed) opened,
           omega (arith, rw opened at bound),
           opening-room (paramsOf (e .variant)) (e .current .phase) (e .current .held) (length out) n (t .passed) opened,
         )
 
-    pub final-opened : (done : Done) → done ≡ openEnd begun n → done ≡ doFinal e out
-    unfolding doFinal
-    final-opened done ed = rw (t .passed, opened, ← t .begins) ed
+    pub final-opened : (answer : AeadResult) → answer ≡ Ok n → (first : ℕ)
+        → first ≡ begunSteps (paramsOf (e .variant)) (e .current .phase) → (x : Point) (end : End)
+        → end
+        ≡ openedEnd
+        (same (receivedTag (messageAt (e .variant) at (e .pair .key))) (openTag (messageAt (e .variant) at (e .pair .key))))
+        (messageAt (e .variant) at (e .pair .key))
+        → (done : Done) → done ≡ endedBy (atPoint e x first) (answered answer (end .mac)) Decrypt (end .mac) (end .steps)
+        → done ≡ doFinal e out
+    unfolding doFinal openEnd receivedTag openTag openLast openBlock currentKey
+    final-opened answer told first ef x end ee done ed =
+        let right = same (receivedTag (beginData e)) (openTag (beginData e)) in
+        rw (t .passed, opened)
+        (ed
+        ∙ ended-is answer told first ef x Decrypt end (openedEnd right (beginData e))
+        (ee ∙ ap (λ (m : SparkleEngine). openedEnd (same (receivedTag m) (openTag m)) m) message-is
+        ∙ opened-message (beginData e) right)
+        ∙ open-end-by right (beginData e) n)
 
-    pub final-opened-out : (out₁ : List ℕ) → out₁ ≡ written (openEndOutBy (same (receivedTag begun) (openTag begun)) begun) out
+    pub final-opened-out : (out₁ : List ℕ)
+        → out₁
+        ≡ written
+        (openEndOutBy
+        (same (receivedTag (messageAt (e .variant) at (e .pair .key))) (openTag (messageAt (e .variant) at (e .pair .key))))
+        (messageAt (e .variant) at (e .pair .key))) out
         → out₁ ≡ doFinalOut e out
-    unfolding doFinalOut
-    final-opened-out out₁ ed = rw (t .passed, opened, ← t .begins) ed
+    unfolding doFinalOut receivedTag openTag openLast openBlock currentKey
+    final-opened-out out₁ ed =
+        rw (t .passed, opened)
+        (ed ∙ ap (λ (m : SparkleEngine). written (openEndOutBy (same (receivedTag m) (openTag m)) m) out) message-is
+        ∙ ap (λ (bytes : List ℕ). written bytes out)
+        (opened-out-message (beginData e) (same (receivedTag (beginData e)) (openTag (beginData e)))))
 
 -- a refused end
 module _ (e : SparkleEngine) (out : List ℕ) (answer : AeadResult) (x : AeadError)

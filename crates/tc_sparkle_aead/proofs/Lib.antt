@@ -2,6 +2,7 @@
 pub mod VariantLaws
 pub mod CheckLaws
 pub mod PhaseLaws
+pub mod BeginLaws
 pub mod Fill
 pub mod SameLaws
 pub mod WordLaws

@@ -18,11 +18,14 @@ use Rattle.tc_sparkle_aead.specs.declared.aead_error.AeadResult.{AeadRes
 use Rattle.tc_sparkle_aead.specs.declared.aead_error.AeadResult.the-variants.{Ok, Err}
 use Rattle.tc_sparkle_aead.specs.declared.aead_init_error.AeadInitResult.{AeadInitResult}
 use Rattle.tc_sparkle_aead.specs.declared.aead_init_error.AeadInitResult.the-variants.{Ok as StartOk, Err as StartErr}
+use Rattle.tc_sparkle_aead.specs.declared.variant.SparkleVariant.{SparkleVariant}
 use Rattle.tc_sparkle_aead.specs.declared.engine.Point.{Point}
 use Rattle.tc_sparkle_aead.specs.declared.engine.Mac.{Mac}
 use Rattle.tc_sparkle_aead.specs.declared.engine.Steps.{Steps}
 use Rattle.tc_sparkle_aead.specs.declared.engine.SparkleEngine.{SparkleEngine}
 use Rattle.tc_sparkle_aead.specs.declared.engine.Done.{Done}
+use Rattle.tc_sparkle_aead.specs.declared.engine.Progress.{Progress}
+use Rattle.tc_sparkle_aead.specs.declared.engine.End.{End}
 use Rattle.tc_sparkle_aead.specs.declared.engine.Started.{Started}
 use Rattle.tc_sparkle_aead.specs.Variant.{paramsOf}
 use Rattle.tc_sparkle_aead.specs.Checks.{opening, keep, heldIn, aadCheck, dataCheck, endCheck, startCheck}
@@ -179,6 +182,22 @@ afterHeader p d at =
       held = 0;
     }
 
+-- The point where the data begins, and the steps that this runs. A point where it has begun stays.
+abbrev pub begun : Params → Phase → Point → Point
+begun p Uninitialized at = at
+begun p (Init d) at = withoutHeader d at
+begun p (Aad d) at = afterHeader p d at
+begun p (Data d) at = at
+begun p (Final d) at = at
+
+abbrev pub begunSteps : Params → Phase → ℕ
+begunSteps p Uninitialized = 0
+begunSteps p (Init d) = 0
+begunSteps p (Aad d) = p .big
+begunSteps p (Data d) = 0
+begunSteps p (Final d) = 0
+
+-- The engine when the data begins.
 abbrev pub beginBy : Phase → SparkleEngine → SparkleEngine
 beginBy Uninitialized e = e
 beginBy (Init d) e = atPoint e (withoutHeader d (e .current)) 0
@@ -196,13 +215,18 @@ plainBy p opens = cond opens (openingBlock p) (sealingBlock p)
 unfoldable pub plainOf : Params → Phase → List ℕ → List ℕ → List ℕ
 plainOf p phase = plainBy p (opening phase)
 
--- Data in phase Data: the engine afterwards, and what is written.
+-- Data in phase Data: where it leads, the engine afterwards, and what is written.
+abbrev pub dataFrom : Params → Point → List ℕ → Progress
+dataFrom p at input =
+    let phase = at .phase in
+    record {
+      point = streamed p (keep p phase) (messageBlock p (plainOf p phase)) phase at input;
+      steps = blocks p (keep p phase) at input * p .slim;
+    }
+
 unfoldable pub dataIn : SparkleEngine → List ℕ → SparkleEngine
 dataIn e input =
-    let p = paramsOf (e .variant) in
-    let phase = e .current .phase in
-    atPoint e (streamed p (keep p phase) (messageBlock p (plainOf p phase)) phase (e .current) input)
-    (blocks p (keep p phase) (e .current) input * p .slim)
+    let r = dataFrom (paramsOf (e .variant)) (e .current) input in atPoint e (r .point) (r .steps)
 
 unfoldable pub streamOut : Params → Point → List ℕ → List ℕ
 streamOut p at input =
@@ -241,6 +265,18 @@ lastState p s block plain = ifEmpty block s (mixLast p 2 s plain)
 
 unfoldable pub lastSteps : Params → List ℕ → ℕ
 lastSteps p block = cond (ltb 0 (length block)) (p .big) 0
+
+-- What an end depends on: the variant, the point and the key. An engine with these alone.
+abbrev pub messageAt : SparkleVariant → Point → List ℕ → SparkleEngine
+messageAt v at key =
+    record {
+      variant = v;
+      current = at;
+      initial = noMessage;
+      pair = record { loaded = true; key = key; nonce = zeros 32 };
+      mac = noMac;
+      steps = noSteps;
+    }
 
 -- The last bytes of a sealing and its tag, from the engine in Data.
 unfoldable pub sealTag : SparkleEngine → List ℕ
@@ -296,20 +332,31 @@ endedBy e answer d mac n = record { answer = answer; engine = ended e d mac n }
 unfoldable pub readable : List ℕ → Mac
 readable tag = record { readable = true; bytes = inArray 32 tag }
 
--- The end of a sealing, and of an opening by whether the received tag is the specification's.
+-- The tag and the steps of the end of a sealing, and of an opening by whether the received tag is the specification's.
+abbrev pub sealedEnd : SparkleEngine → End
+sealedEnd e =
+    let p = paramsOf (e .variant) in
+    record { mac = readable (sealTag e); steps = lastSteps p (heldBytes p (e .current)) }
+
+abbrev pub openedEnd : Bool → SparkleEngine → End
+openedEnd true e = record { mac = readable (openTag e); steps = lastSteps (paramsOf (e .variant)) (openBlock e) }
+openedEnd false e = record { mac = noMac; steps = lastSteps (paramsOf (e .variant)) (openBlock e) }
+
+-- An end without a tag that can be read is refused.
+abbrev pub answered : AeadResult → Mac → AeadResult
+answered answer mac = cond (mac .readable) answer (Err AuthenticationFailed)
+
+-- The end of a sealing, and of an opening.
 unfoldable pub sealEnd : SparkleEngine → ℕ → Done
 sealEnd e n =
-    let p = paramsOf (e .variant) in
-    record { answer = Ok n; engine = ended e Encrypt (readable (sealTag e)) (lastSteps p (heldBytes p (e .current))) }
+    let r = sealedEnd e in record { answer = Ok n; engine = ended e Encrypt (r .mac) (r .steps) }
 
 abbrev pub openEndBy : Bool → SparkleEngine → ℕ → Done
 openEndBy true e n =
-    record { answer = Ok n; engine = ended e Decrypt (readable (openTag e)) (lastSteps (paramsOf (e .variant)) (openBlock e)) }
+    let r = openedEnd true e in record { answer = Ok n; engine = ended e Decrypt (r .mac) (r .steps) }
 openEndBy false e n =
-    record {
-      answer = Err AuthenticationFailed;
-      engine = ended e Decrypt noMac (lastSteps (paramsOf (e .variant)) (openBlock e));
-    }
+    let r = openedEnd false e in
+    record { answer = Err AuthenticationFailed; engine = ended e Decrypt (r .mac) (r .steps) }
 
 unfoldable pub openEnd : SparkleEngine → ℕ → Done
 openEnd e n = openEndBy (same (receivedTag e) (openTag e)) e n

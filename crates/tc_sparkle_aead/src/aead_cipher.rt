@@ -67,7 +67,7 @@ pub fn process_aad_bytes(e: SparkleEngine, input: &[u8]) -> Done
 }
 
 // Seals or opens the input that is ready and holds back the rest.
-pub fn process_bytes(e: SparkleEngine, input: &[u8], output: &mut [u8]) -> Done
+pub fn process_bytes(mut e: SparkleEngine, input: &[u8], output: &mut [u8]) -> Done
     ensures { λ r. ⌜ r ≡ processBytes e (now (input .entry)) (now (output .entry)) ⌝ }
     ensures { λ _. ⌜ now (output .exit) ≡ processBytesOut e (now (input .entry)) (now (output .entry)) ⌝ }
 {
@@ -78,10 +78,14 @@ pub fn process_bytes(e: SparkleEngine, input: &[u8], output: &mut [u8]) -> Done
     let AeadResult::Ok(_) = answer else {
         return Done { answer, engine: e };
     };
-    let begun = engine::begin_data(e);
+    let begun = engine::begin_data(variant, at);
+    let done = engine::data_in(variant, begun, input, output);
+    let s = e.steps;
+    let steps = engine::add_steps(s, engine::begin_steps(variant, phase));
+    e.steps = steps;
     Done {
         answer,
-        engine: engine::data_in(begun, input, output),
+        engine: engine::at_point(e, done.point, done.steps),
     }
 }
 
@@ -94,14 +98,19 @@ pub fn do_final(e: SparkleEngine, output: &mut [u8]) -> Done
     let at = e.current;
     let phase = at.phase;
     let answer = checks::end_check(variant, phase, at.held, output.len());
-    let AeadResult::Ok(n) = answer else {
+    let AeadResult::Ok(_) = answer else {
         return Done { answer, engine: e };
     };
-    let begun = engine::begin_data(e);
+    let begun = engine::begin_data(variant, at);
+    let pair = e.pair;
+    let key = pair.key;
+    let first = engine::begin_steps(variant, phase);
     if checks::opening(phase) {
-        return engine::open_end(begun, n, output);
+        let end = engine::open_end(variant, begun, key, output);
+        return engine::ended(e, answer, Direction::Decrypt, first, end);
     }
-    engine::seal_end(begun, n, output)
+    let end = engine::seal_end(variant, begun, key, output);
+    engine::ended(e, answer, Direction::Encrypt, first, end)
 }
 
 // How many bytes the next data call of n bytes writes.

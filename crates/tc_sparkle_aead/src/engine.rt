@@ -11,7 +11,7 @@ ghost use Rattle.schwaemm.specs.Bytes.{same};
 ghost use Rattle.schwaemm.specs.Schwaemm.{messageBlock};
 ghost use Rattle.tc_sparkle_aead.specs.Checks.{keep};
 ghost use Rattle.tc_sparkle_aead.specs.Engine.{noMessage, noMac, newEngine, repeats, remember};
-ghost use Rattle.tc_sparkle_aead.specs.Calls.{heldCount, blocks, streamed, addSteps, atPoint, refused, startPoint, headed, headedSteps, started, beginData, streamOut, afterHeader, withoutHeader, plainOf, dataIn, dataOut, written, finalPoint, stateIn, putState, lastState, sealLast, sealTag, receivedTag, openTag, endedBy, sealEnd, openEnd, openEndOutBy, resetPoint};
+ghost use Rattle.tc_sparkle_aead.specs.Calls.{heldCount, blocks, streamed, addSteps, atPoint, refused, startPoint, headed, headedSteps, started, begun, begunSteps, streamOut, afterHeader, withoutHeader, plainOf, dataFrom, written, finalPoint, stateIn, putState, lastState, messageAt, sealLast, sealTag, receivedTag, openTag, answered, endedBy, sealedEnd, openedEnd, openEndOutBy, resetPoint};
 use super::aead_error::AeadError;
 use super::aead_error::AeadResult;
 use super::aead_init_error::AeadInitResult;
@@ -69,6 +69,18 @@ pub struct Done {
 pub struct Started {
     pub answer: AeadInitResult,
     pub engine: SparkleEngine,
+}
+
+// Where a part of a call leads: the point, and the steps that it runs.
+pub struct Progress {
+    pub(crate) point: Point,
+    pub(crate) steps: u64,
+}
+
+// What the end of a message gives: the tag, and the steps that it runs.
+pub struct End {
+    pub(crate) mac: Mac,
+    pub(crate) steps: u64,
 }
 
 // A point without a message.
@@ -259,20 +271,26 @@ fn without_header(d: Direction, at: Point) -> Point
     }
 }
 
-pub(crate) fn begin_data(e: SparkleEngine) -> SparkleEngine
-    ensures { λ r. ⌜ r ≡ beginData e ⌝ }
+// The point where the data begins. A point where it has begun stays.
+pub(crate) fn begin_data(variant: SparkleVariant, at: Point) -> Point
+    ensures { λ r. ⌜ r ≡ begun (paramsOf variant) (at .phase) at ⌝ }
 {
-    let variant = e.variant;
-    let at = e.current;
     let phase = at.phase;
     match phase {
-        Phase::Init(d) => return at_point(e, without_header(d, at), 0),
-        Phase::Aad(d) => {
-            return at_point(e, after_header(variant, d, at), variant.big_steps() as u64);
-        }
-        _ => {}
+        Phase::Init(d) => without_header(d, at),
+        Phase::Aad(d) => after_header(variant, d, at),
+        _ => at,
     }
-    e
+}
+
+// The steps that this runs.
+pub(crate) fn begin_steps(variant: SparkleVariant, phase: Phase) -> u64
+    ensures { λ r. ⌜ r ≡ begunSteps (paramsOf variant) phase ⌝ }
+{
+    match phase {
+        Phase::Aad(_) => variant.big_steps() as u64,
+        _ => 0,
+    }
 }
 
 // ---- header and data
@@ -323,19 +341,25 @@ fn stream_in(
     }
 }
 
-// The engine after data in phase Data, and what is written.
-pub(crate) fn data_in(e: SparkleEngine, input: &[u8], output: &mut [u8]) -> SparkleEngine
-    requires { ⌜ blocks (paramsOf (e .variant)) (keep (paramsOf (e .variant)) (e .current .phase)) (e .current) (now input) * paramsOf (e .variant) .rate ≤ length (now output) ⌝ }
-    ensures { λ r. ⌜ r ≡ dataIn e (now (input .entry)) ⌝ }
-    ensures { λ _. ⌜ now (output .exit) ≡ written (dataOut e (now (input .entry))) (now (output .entry)) ⌝ }
+// The point after data in phase Data, its steps, and what is written.
+pub(crate) fn data_in(
+    variant: SparkleVariant,
+    at: Point,
+    input: &[u8],
+    output: &mut [u8],
+) -> Progress
+    requires { ⌜ blocks (paramsOf variant) (keep (paramsOf variant) (at .phase)) at (now input) * paramsOf variant .rate ≤ length (now output) ⌝ }
+    ensures { λ r. ⌜ r ≡ dataFrom (paramsOf variant) at (now (input .entry)) ⌝ }
+    ensures { λ _. ⌜ now (output .exit) ≡ written (streamOut (paramsOf variant) at (now (input .entry))) (now (output .entry)) ⌝ }
 {
-    let variant = e.variant;
-    let at = e.current;
     let phase = at.phase;
     let held = held_count(variant, phase, at.held);
     let count = checks::block_count(variant, checks::keep(variant, phase), held + input.len());
     let next = stream_in(variant, at, input, output, count);
-    at_point(e, next, (count as u64) * (variant.slim_steps() as u64))
+    Progress {
+        point: next,
+        steps: (count as u64) * (variant.slim_steps() as u64),
+    }
 }
 
 // ---- the start
@@ -458,63 +482,38 @@ fn last_steps(variant: SparkleVariant, n: usize) -> u64
     if 0 < n { variant.big_steps() as u64 } else { 0 }
 }
 
-// The message has ended.
-fn ended(mut e: SparkleEngine, answer: AeadResult, d: Direction, mac: Mac, n: u64) -> Done
-    ensures { λ r. ⌜ r ≡ endedBy e answer d mac n ⌝ }
-{
-    let point = final_point(d);
-    let s = e.steps;
-    let steps = add_steps(s, n);
-    e.current = point;
-    e.mac = mac;
-    e.steps = steps;
-    Done { answer, engine: e }
-}
-
 // The end of a sealing: the last bytes and the tag.
-pub(crate) fn seal_end(e: SparkleEngine, n: usize, output: &mut [u8]) -> Done
-    requires { ⌜ (heldCount (paramsOf (e .variant)) (e .current .phase) (e .current .held) ≤ paramsOf (e .variant) .rate) × (heldCount (paramsOf (e .variant)) (e .current .phase) (e .current .held) + paramsOf (e .variant) .key ≤ length (now output)) ⌝ }
-    ensures { λ r. ⌜ r ≡ sealEnd e n ⌝ }
-    ensures { λ _. ⌜ now (output .exit) ≡ written (sealLast e ++ sealTag e) (now (output .entry)) ⌝ }
+pub(crate) fn seal_end(variant: SparkleVariant, at: Point, key: [u8; 32], output: &mut [u8]) -> End
+    requires { ⌜ (heldCount (paramsOf variant) (at .phase) (at .held) ≤ paramsOf variant .rate) × (heldCount (paramsOf variant) (at .phase) (at .held) + paramsOf variant .key ≤ length (now output)) ⌝ }
+    ensures { λ r. ⌜ r ≡ sealedEnd (messageAt variant at key) ⌝ }
+    ensures { λ _. ⌜ now (output .exit) ≡ written (sealLast (messageAt variant at key) ++ sealTag (messageAt variant at key)) (now (output .entry)) ⌝ }
 {
-    let variant = e.variant;
-    let at = e.current;
     let phase = at.phase;
     let words = at.words;
     let buffer = at.buffer;
-    let pair = e.pair;
-    let key = pair.key;
     let held = held_count(variant, phase, at.held);
     let bytes = blocks::crypt(variant, words, buffer, held);
     let tag = blocks::make_tag(variant, last_words(variant, words, buffer, held), key);
     blocks::put(output, 0, &bytes, held);
     blocks::put(output, held, &tag, variant.tag_bytes());
-    let mac = Mac {
-        readable: true,
-        bytes: tag,
-    };
-    ended(
-        e,
-        AeadResult::Ok(n),
-        Direction::Encrypt,
-        mac,
-        last_steps(variant, held),
-    )
+    End {
+        mac: Mac {
+            readable: true,
+            bytes: tag,
+        },
+        steps: last_steps(variant, held),
+    }
 }
 
 // The end of an opening: the last bytes where the received tag is right, else zeros in their place.
-pub(crate) fn open_end(e: SparkleEngine, n: usize, output: &mut [u8]) -> Done
-    requires { ⌜ (paramsOf (e .variant) .key ≤ heldCount (paramsOf (e .variant)) (e .current .phase) (e .current .held)) × (heldCount (paramsOf (e .variant)) (e .current .phase) (e .current .held) ≤ paramsOf (e .variant) .rate + paramsOf (e .variant) .key) × (heldCount (paramsOf (e .variant)) (e .current .phase) (e .current .held) ≤ length (now output) + paramsOf (e .variant) .key) ⌝ }
-    ensures { λ r. ⌜ r ≡ openEnd e n ⌝ }
-    ensures { λ _. ⌜ now (output .exit) ≡ written (openEndOutBy (same (receivedTag e) (openTag e)) e) (now (output .entry)) ⌝ }
+pub(crate) fn open_end(variant: SparkleVariant, at: Point, key: [u8; 32], output: &mut [u8]) -> End
+    requires { ⌜ (paramsOf variant .key ≤ heldCount (paramsOf variant) (at .phase) (at .held)) × (heldCount (paramsOf variant) (at .phase) (at .held) ≤ paramsOf variant .rate + paramsOf variant .key) × (heldCount (paramsOf variant) (at .phase) (at .held) ≤ length (now output) + paramsOf variant .key) ⌝ }
+    ensures { λ r. ⌜ r ≡ openedEnd (same (receivedTag (messageAt variant at key)) (openTag (messageAt variant at key))) (messageAt variant at key) ⌝ }
+    ensures { λ _. ⌜ now (output .exit) ≡ written (openEndOutBy (same (receivedTag (messageAt variant at key)) (openTag (messageAt variant at key))) (messageAt variant at key)) (now (output .entry)) ⌝ }
 {
-    let variant = e.variant;
-    let at = e.current;
     let phase = at.phase;
     let words = at.words;
     let buffer = at.buffer;
-    let pair = e.pair;
-    let key = pair.key;
     let size = variant.tag_bytes();
     let body = held_count(variant, phase, at.held) - size;
     let plain = blocks::crypt(variant, words, buffer, body);
@@ -522,19 +521,46 @@ pub(crate) fn open_end(e: SparkleEngine, n: usize, output: &mut [u8]) -> Done
     let steps = last_steps(variant, body);
     if blocks::same_tag(buffer, body, tag, size) {
         blocks::put(output, 0, &plain, body);
-        let mac = Mac {
-            readable: true,
-            bytes: tag,
+        return End {
+            mac: Mac {
+                readable: true,
+                bytes: tag,
+            },
+            steps,
         };
-        return ended(e, AeadResult::Ok(n), Direction::Decrypt, mac, steps);
     }
     let zeros = [0u8; 64];
     blocks::put(output, 0, &zeros, body);
-    ended(
-        e,
-        AeadResult::Err(AeadError::AuthenticationFailed),
-        Direction::Decrypt,
-        no_mac(),
+    End {
+        mac: no_mac(),
         steps,
-    )
+    }
+}
+
+// The message has ended, after `first` steps and those of its end. Where no tag can be read, the received
+// one was wrong.
+pub(crate) fn ended(
+    mut e: SparkleEngine,
+    answer: AeadResult,
+    d: Direction,
+    first: u64,
+    end: End,
+) -> Done
+    ensures { λ r. ⌜ r ≡ endedBy (atPoint e (e .current) first) (answered answer (end .mac)) d (end .mac) (end .steps) ⌝ }
+{
+    let point = final_point(d);
+    let mac = end.mac;
+    let s = e.steps;
+    let begun = add_steps(s, first);
+    let steps = add_steps(begun, end.steps);
+    e.current = point;
+    e.mac = mac;
+    e.steps = steps;
+    if mac.readable {
+        return Done { answer, engine: e };
+    }
+    Done {
+        answer: AeadResult::Err(AeadError::AuthenticationFailed),
+        engine: e,
+    }
 }

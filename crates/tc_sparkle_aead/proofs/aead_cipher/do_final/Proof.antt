@@ -7,14 +7,17 @@ use Rattle.tc_sparkle_aead.proofs.aead_cipher.do_final.Tie as tie
 
 -- what is known where the direction is told
 taken : (c : tie.After-opening)
-    → Taken (c .before .before .before .before .before .before .before .before .args .e) (c .before .begin-data .result)
-    (c .before .before .before .before .before .before .before .before .args .output .now)
-    (c .before .before .before .answer .given .0 .0) (c .opening .result)
+    → Taken
+    (c .before .before .before .before .before .before .before .before .before .before .args .e)
+    (c .before .before .before .before .begin-data .result)
+    (c .before .before .before .before .before .before .before .before .before .before .args .output .now)
+    (c .before .before .before .before .before .enum-told .given .0 .0) (c .opening .result)
 taken c =
-    let told = c .before .before .before in
+    let begun = c .before .before .before .before in
+    let told = begun .before in
     record {
-      passed = sym (told .before .before .end-check .ensures) ∙ told .answer .given .1;
-      begins = c .before .begin-data .ensures;
+      passed = sym (told .before .before .end-check .ensures) ∙ told .enum-told .given .1;
+      begins = begun .begin-data .ensures;
       direction = c .opening .ensures;
     }
 
@@ -22,8 +25,8 @@ returns : tie.Need-returns
 returns c =
     let checked = c .before .before in
     let s = checked .before .before .before .args in (
-      final-refused (s .e) (s .output .now) _ _ (checked .end-check .ensures) (c .enum-told .given .1),
-      final-refused-out (s .e) (s .output .now) _ _ (checked .end-check .ensures) (c .enum-told .given .1),
+      final-refused (s .e) (s .output .now) _ _ (checked .end-check .ensures) (c .enum-told2 .given .1),
+      final-refused-out (s .e) (s .output .now) _ _ (checked .end-check .ensures) (c .enum-told2 .given .1),
     )
 
 open-end-requires : tie.Need-open-end-requires
@@ -31,10 +34,13 @@ open-end-requires c κs = open-fits (taken (c .before .before)) (c .before .if1 
 
 returns-2 : tie.Need-returns-2
 returns-2 c =
-    let end = c .before .before in
+    let end = c .before .before .before in
     let branch = end .before .before in
+    let first = branch .before .before in
+    let told = first .before .before .before .before in
     let t = taken (branch .before) in (
-      final-opened t (branch .if1 .taken) _ (end .open-end .ensures .0),
+      final-opened t (branch .if1 .taken) _ (told .enum-told .given .1) _ (first .begin-steps .ensures) _ _
+          (end .open-end .ensures .0) _ (c .ended .ensures),
       final-opened-out t (branch .if1 .taken) _ (end .open-end .ensures .1),
     )
 
@@ -43,10 +49,13 @@ seal-end-requires c κs = seal-fits (taken (c .before .before)) (c .before .if1 
 
 returns-3 : tie.Need-returns-3
 returns-3 c =
-    let end = c .before .before in
+    let end = c .before .before .before in
     let branch = end .before .before in
+    let first = branch .before .before in
+    let told = first .before .before .before .before in
     let t = taken (branch .before) in (
-      final-sealed t (branch .if1 .left) _ (end .seal-end .ensures .0),
+      final-sealed t (branch .if1 .left) _ (told .enum-told .given .1) _ (first .begin-steps .ensures) _ _
+          (end .seal-end .ensures .0) _ (c .ended2 .ensures),
       final-sealed-out t (branch .if1 .left) _ (end .seal-end .ensures .1),
     )
 
@@ -60,9 +69,12 @@ do-final-spec =
     returns
     (λ c κs. search needs)
     (λ c κs. search needs)
+    (λ c κs. search needs)
     open-end-requires
+    (λ c κs. search needs)
     (λ c. search needs)
     returns-2
     seal-end-requires
+    (λ c κs. search needs)
     (λ c. search needs)
     returns-3)

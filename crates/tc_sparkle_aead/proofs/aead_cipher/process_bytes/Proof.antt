@@ -2,7 +2,9 @@
 use mathlib.Core.Path.{_≡_, refl, sym, _∙_}
 use lib.ListN.{length}
 use borrow.Author.Needs.{needs}
-use Rattle.tc_sparkle_aead.specs.Calls.{beginData}
+use Rattle.tc_sparkle_aead.specs.Variant.{paramsOf}
+use Rattle.tc_sparkle_aead.specs.Calls.{atPoint}
+use Rattle.tc_sparkle_aead.proofs.VariantLaws.{small}
 use Rattle.tc_sparkle_aead.proofs.DataLaws.{data-room, data-refused, data-refused-out, data-taken, data-taken-out}
 use Rattle.tc_sparkle_aead.proofs.aead_cipher.process_bytes.Statement.{statement}
 use Rattle.tc_sparkle_aead.proofs.aead_cipher.process_bytes.Tie as tie
@@ -19,25 +21,28 @@ returns c =
     )
 
 data-in-requires : tie.Need-data-in-requires
-unfolding beginData
 data-in-requires c κs =
     let told = c .before .before in
     let check = told .before .before in
     let s = check .before .before .before .before in
     let e = s .args .e in
     rw (c .before .begin-data .ensures)
-    (data-room (e .current .phase) e refl (buffer-length s) (s .args .input .now) _ _
-    (sym (check .data-check .ensures) ∙ told .enum-told .given .1))
+    (data-room (paramsOf (e .variant)) (small (e .variant)) (e .current .phase) (e .current) refl (buffer-length s)
+    (s .args .input .now) _ _ (sym (check .data-check .ensures) ∙ told .enum-told .given .1))
 
 returns-2 : tie.Need-returns-2
+unfolding atPoint
 returns-2 c =
-    let done = c .before .before in
+    let stepped = c .before in
+    let first = stepped .before in
+    let done = first .before .before .before .before in
     let begun = done .before .before in
     let told = begun .before in
     let check = told .before .before in
     let s = check .before .before .before .before .args in (
       data-taken (s .e) (s .input .now) (s .output .now) _ (check .data-check .ensures) _ (told .enum-told .given .1) _
-          (begun .begin-data .ensures) _ (done .data-in .ensures .0),
+          (begun .begin-data .ensures) _ (first .begin-steps .ensures) (s .e .current) _ (done .data-in .ensures .0) _
+          (rw (stepped .add-steps .ensures) at (c .at-point .ensures)),
       data-taken-out (s .e) (s .input .now) (s .output .now) _ (check .data-check .ensures) _ (told .enum-told .given .1) _
           (begun .begin-data .ensures) _ (done .data-in .ensures .1),
     )
@@ -52,5 +57,8 @@ process-bytes-spec =
     returns
     (λ c κs. search needs)
     data-in-requires
+    (λ c κs. search needs)
+    (λ c κs. search needs)
+    (λ c κs. search needs)
     (λ c. search needs)
     returns-2)

@@ -1,22 +1,23 @@
--- `open_end` has the last bytes, the tag and its verdict from its callees, and then writes and ends by the verdict.
+-- `open_end` has the last bytes, the tag and its verdict from its callees, and then writes by the verdict.
 use mathlib.Core.Path.{_≡_, refl}
 use Prim.Native.Nat.{_+_, _-_, _≤_}
 use native.Mathlib.Omega.{arith}
 use borrow.Author.Needs.{needs}
 use lib.ListN.{length}
 use Rattle.tc_sparkle_aead.specs.Engine.{zeros}
+use Rattle.tc_sparkle_aead.specs.Calls.{messageAt}
 use Rattle.tc_sparkle_aead.proofs.VariantLaws.{small}
 use Rattle.tc_sparkle_aead.proofs.EndLaws.{Opening, opening-is, opened, opened-out, unopened, unopened-out}
 use Rattle.tc_sparkle_aead.proofs.engine.open_end.Statement.{statement}
 use Rattle.tc_sparkle_aead.proofs.engine.open_end.Tie as tie
 
-words-long : (s : tie.Start) → length (s .args .e .current .words) ≡ 16
+words-long : (s : tie.Start) → length (s .args .at .words) ≡ 16
 words-long s = search needs
 
-buffer-long : (s : tie.Start) → length (s .args .e .current .buffer) ≡ 64
+buffer-long : (s : tie.Start) → length (s .args .at .buffer) ≡ 64
 buffer-long s = search needs
 
-key-long : (s : tie.Start) → length (s .args .e .pair .key) ≡ 32
+key-long : (s : tie.Start) → length (s .args .key) ≡ 32
 key-long s = search needs
 
 -- the held bytes end with a tag, and what is before it fits a block and the output
@@ -24,11 +25,11 @@ fits : (c : tie.After-held-count)
     → (c .before .tag-bytes .result ≤ 32) × (c .before .tag-bytes .result ≤ c .held-count .result)
     × (c .held-count .result ≤ 64)
     × (c .held-count .result
-    ≤ length (c .before .before .before .before .before .before .before .before .args .output .now) + c .before .tag-bytes .result)
+    ≤ length (c .before .before .before .before .before .args .output .now) + c .before .tag-bytes .result)
 fits c =
     let sized = c .before in
-    let s = sized .before .before .before .before .before .before .before in
-    omega (arith, c .held-count .ensures, sized .tag-bytes .ensures, small (s .args .e .variant), s .pre)
+    let s = sized .before .before .before .before in
+    omega (arith, c .held-count .ensures, sized .tag-bytes .ensures, small (s .args .variant), s .pre)
 
 same-tag-requires : tie.Need-same-tag-requires
 same-tag-requires c κs = omega (arith, fits (c .before .before .before .before))
@@ -41,7 +42,10 @@ put-requires-2 c κs = omega (arith, fits (c .before .before .before .before .be
 
 -- what is computed before the verdict's branch
 computed : (c : tie.After-same-tag)
-    → Opening (c .before .before .before .before .before .before .before .before .before .before .before .before .before .args .e)
+    → Opening
+    (messageAt (c .before .before .before .before .before .before .before .before .before .before .args .variant)
+    (c .before .before .before .before .before .before .before .before .before .before .args .at)
+    (c .before .before .before .before .before .before .before .before .before .before .args .key))
     (c .before .before .before .before .before .held-count .result - c .before .before .before .before .before .before .tag-bytes .result)
     (c .before .before .before .before .crypt .result) (c .before .before .make-tag .result) (c .before .last-steps .result)
     (c .same-tag .result)
@@ -49,29 +53,28 @@ computed c =
     let made = c .before .before in
     let counted = made .before .before .before in
     let sized = counted .before in
-    let s = sized .before .before .before .before .before .before .before in
+    let s = sized .before .before .before .before in
     let held = counted .held-count .ensures in
     let size = sized .tag-bytes .ensures in
-    opening-is (s .args .e) (words-long s) (buffer-long s) (key-long s) _ _ held size (omega (arith, held, size, s .pre))
-    (omega (arith, held, s .pre)) _ _ _ _ _ (made .before .before .crypt .ensures) (made .before .last-words .ensures)
-    (made .make-tag .ensures) (c .before .last-steps .ensures) (c .same-tag .ensures)
+    opening-is (messageAt (s .args .variant) (s .args .at) (s .args .key)) (words-long s) (buffer-long s) (key-long s) _ _
+    held size (omega (arith, held, size, s .pre)) (omega (arith, held, s .pre)) _ _ _ _ _
+    (made .before .before .crypt .ensures) (made .before .last-words .ensures) (made .make-tag .ensures)
+    (c .before .last-steps .ensures) (c .same-tag .ensures)
 
 returns : tie.Need-returns
 returns c =
-    let put = c .before .before .before in
+    let put = c .before .before in
     let branch = put .before .before .before in
-    let o = computed (branch .before) in (
-      opened o _ _ (branch .if1 .taken) (c .ended .ensures),
-      opened-out o _ _ (branch .if1 .taken) (put .put .ensures),
-    )
+    let o = computed (branch .before) in
+    (opened o (branch .if1 .taken), opened-out o _ _ (branch .if1 .taken) (put .put .ensures))
 
 returns-2 : tie.Need-returns-2
 unfolding zeros
 returns-2 c =
-    let put = c .before .before .before .before in
+    let put = c .before .before .before in
     let branch = put .before .before .before in
     let o = computed (branch .before) in (
-      unopened o _ _ _ (branch .if1 .left) (c .before .no-mac .ensures) (c .ended2 .ensures),
+      unopened o _ (branch .if1 .left) (c .no-mac .ensures),
       unopened-out o _ _ _ (branch .if1 .left) (put .put2 .ensures) refl,
     )
 
@@ -89,12 +92,10 @@ open-end-spec =
     same-tag-requires
     (λ c. search needs)
     put-requires
-    (λ c κs. search needs)
     (λ c. search needs)
     returns
     (λ c. search needs)
     put-requires-2
-    (λ c κs. search needs)
     (λ c κs. search needs)
     (λ c. search needs)
     returns-2)

@@ -1,0 +1,140 @@
+-- Where the data begins: the code's point and steps, apart from the engine, are those of the engine in which it begins.
+-- What an end depends on of that engine is its message.
+use mathlib.Core.Path.{_≡_, refl, sym, ap, _∙_}
+use mathlib.Core.List.{[], _∷_}
+use mathlib.Core.Logic.{inl, inr}
+use Prim.Native.Nat.{ℕ, _+_, _%_, _^_}
+use native.Mathlib.Nat.{mod-add-mod, add-zero}
+use native.Mathlib.Omega.{arith}
+use types.Run.{OneOf}
+use denote.Enum.Declared.{tagOf}
+use Rattle.schwaemm.specs.Schwaemm.{Params}
+use Rattle.tc_sparkle_aead.specs.declared.variant.SparkleVariant.{SparkleVariant}
+use Rattle.tc_sparkle_aead.specs.declared.phase.Direction.{Direction}
+use Rattle.tc_sparkle_aead.specs.declared.phase.Phase.{Phase}
+use Rattle.tc_sparkle_aead.specs.declared.phase.Phase.the-variants.{Uninitialized, Init, Aad, Data, Final}
+use Rattle.tc_sparkle_aead.specs.declared.engine.Point.{Point}
+use Rattle.tc_sparkle_aead.specs.declared.engine.Mac.{Mac}
+use Rattle.tc_sparkle_aead.specs.declared.engine.Steps.{Steps}
+use Rattle.tc_sparkle_aead.specs.declared.engine.SparkleEngine.{SparkleEngine}
+use Rattle.tc_sparkle_aead.specs.Variant.{paramsOf}
+use Rattle.tc_sparkle_aead.specs.Checks.{heldIn}
+use Rattle.tc_sparkle_aead.specs.Calls.{heldCount, addSteps, atPoint, withoutHeader, afterHeader, begun, begunSteps, beginBy, messageAt, finalPoint, ended}
+use Rattle.tc_sparkle_aead.proofs.phase.Phase.{the-type}
+
+-- ---- The point, by the phase.
+
+module _ (p : Params) (at : Point) (d : Direction) {r : Point} where
+  pub begun-init : at .phase ≡ Init d → r ≡ withoutHeader d at → r ≡ begun p (at .phase) at
+  begun-init is e = e ∙ sym (ap (λ (x : Phase). begun p x at) is)
+
+  pub begun-aad : at .phase ≡ Aad d → r ≡ afterHeader p d at → r ≡ begun p (at .phase) at
+  begun-aad is e = e ∙ sym (ap (λ (x : Phase). begun p x at) is)
+
+-- neither Init nor Aad
+pub begun-kept : (p : Params) (phase : Phase) → OneOf (0 ∷ (3 ∷ (4 ∷ []))) (tagOf the-type phase) → (at : Point)
+    → at ≡ begun p phase at
+begun-kept p Uninitialized h at = refl
+begun-kept p (Init d) (inl h) at = absurd (omega arith)
+begun-kept p (Init d) (inr (inl h)) at = absurd (omega arith)
+begun-kept p (Init d) (inr (inr h)) at = absurd (omega arith)
+begun-kept p (Aad d) (inl h) at = absurd (omega arith)
+begun-kept p (Aad d) (inr (inl h)) at = absurd (omega arith)
+begun-kept p (Aad d) (inr (inr h)) at = absurd (omega arith)
+begun-kept p (Data d) h at = refl
+begun-kept p (Final d) h at = refl
+
+-- not Aad
+pub begun-without-steps : (p : Params) (phase : Phase) → OneOf (0 ∷ (1 ∷ (3 ∷ (4 ∷ [])))) (tagOf the-type phase)
+    → 0 ≡ begunSteps p phase
+begun-without-steps p Uninitialized h = refl
+begun-without-steps p (Init d) h = refl
+begun-without-steps p (Aad d) (inl h) = absurd (omega arith)
+begun-without-steps p (Aad d) (inr (inl h)) = absurd (omega arith)
+begun-without-steps p (Aad d) (inr (inr (inl h))) = absurd (omega arith)
+begun-without-steps p (Aad d) (inr (inr (inr h))) = absurd (omega arith)
+begun-without-steps p (Data d) h = refl
+begun-without-steps p (Final d) h = refl
+
+-- the held bytes there
+pub begun-held : (p : Params) (phase : Phase) (at : Point) → at .phase ≡ phase
+    → heldCount p (begun p phase at .phase) (begun p phase at .held) ≡ heldIn p phase (at .held)
+unfolding withoutHeader afterHeader
+begun-held p Uninitialized at is = rw is refl
+begun-held p (Init d) at is = omega arith
+begun-held p (Aad d) at is = omega arith
+begun-held p (Data d) at is = rw is refl
+begun-held p (Final d) at is = rw is refl
+
+-- ---- The engine.
+
+-- no steps before others
+none-first : (s : Steps) (n : ℕ) → addSteps n (addSteps 0 s) ≡ addSteps n s
+unfolding addSteps
+none-first s n =
+    let e = mod-add-mod (s .current + 0) (2 ^ 64) n ∙ ap (λ (k : ℕ). (k + n) % 2 ^ 64) (add-zero (s .current)) in
+    λ i. record { current = e i; initial = s .initial }
+
+module _ (e : SparkleEngine) where
+  kept-at : (x at : Point) (n : ℕ) → atPoint (atPoint e x 0) at n ≡ atPoint e at n
+  unfolding atPoint
+  kept-at x at n =
+      λ i. record {
+        variant = e .variant;
+        current = at;
+        initial = e .initial;
+        pair = e .pair;
+        mac = e .mac;
+        steps = none-first (e .steps) n i;
+      }
+
+  -- with the steps of the beginning, the engine at another point is that of the engine in which the data begins
+  pub begin-at : (phase : Phase) (x at : Point) (n : ℕ)
+      → atPoint (atPoint e x (begunSteps (paramsOf (e .variant)) phase)) at n ≡ atPoint (beginBy phase e) at n
+  unfolding atPoint
+  begin-at Uninitialized x at n = kept-at x at n
+  begin-at (Init d) x at n = refl
+  begin-at (Aad d) x at n = refl
+  begin-at (Data d) x at n = kept-at x at n
+  begin-at (Final d) x at n = kept-at x at n
+
+  -- and the ended one
+  pub begin-ended : (phase : Phase) (x : Point) (d : Direction) (mac : Mac) (n : ℕ)
+      → ended (atPoint e x (begunSteps (paramsOf (e .variant)) phase)) d mac n ≡ ended (beginBy phase e) d mac n
+  unfolding ended atPoint
+  begin-ended phase x d mac n =
+      ap (λ (y : SparkleEngine). record {
+        variant = y .variant;
+        current = y .current;
+        initial = y .initial;
+        pair = y .pair;
+        mac = mac;
+        steps = y .steps;
+      }) (begin-at phase x (finalPoint d) n)
+
+  -- its variant, its point and its key
+  pub begin-current : (phase : Phase) → beginBy phase e .current ≡ begun (paramsOf (e .variant)) phase (e .current)
+  unfolding atPoint
+  begin-current Uninitialized = refl
+  begin-current (Init d) = refl
+  begin-current (Aad d) = refl
+  begin-current (Data d) = refl
+  begin-current (Final d) = refl
+
+  pub begin-variant : (phase : Phase) → beginBy phase e .variant ≡ e .variant
+  unfolding atPoint
+  begin-variant Uninitialized = refl
+  begin-variant (Init d) = refl
+  begin-variant (Aad d) = refl
+  begin-variant (Data d) = refl
+  begin-variant (Final d) = refl
+
+  pub begin-message : (phase : Phase)
+      → messageAt (beginBy phase e .variant) (beginBy phase e .current) (beginBy phase e .pair .key)
+      ≡ messageAt (e .variant) (begun (paramsOf (e .variant)) phase (e .current)) (e .pair .key)
+  unfolding atPoint
+  begin-message Uninitialized = refl
+  begin-message (Init d) = refl
+  begin-message (Aad d) = refl
+  begin-message (Data d) = refl
+  begin-message (Final d) = refl
