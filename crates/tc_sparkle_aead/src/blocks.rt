@@ -453,13 +453,13 @@ pub(crate) fn domain_constant(variant: SparkleVariant, v: u32) -> u32
     requires { ⌜ v < 4 ⌝ }
     ensures { λ r. ⌜ r ≡ domain (paramsOf variant) v ⌝ }
 {
-    let branches = match variant {
+    let power = match variant {
         SparkleVariant::Schwaemm128_128 => 4,
         SparkleVariant::Schwaemm256_128 => 4,
         SparkleVariant::Schwaemm192_192 => 8,
         SparkleVariant::Schwaemm256_256 => 16,
     };
-    (v ^ branches) * 0x100_0000
+    (v ^ power) * 0x100_0000
 }
 
 // It is xored into the last word of the state.

@@ -11,9 +11,9 @@ use Rattle.tc_sparkle_aead.proofs.blocks.domain_constant.Statement.{sta
 use Rattle.tc_sparkle_aead.proofs.blocks.domain_constant.Tie as tie
 
 -- what the match gives
-branches : (c : tie.At-match-came)
-    → (c .match .branches ≡ 2 ^ (paramsOf (c .before .args .variant) .key / 8)) × (c .match .branches < 2 ^ 8)
-branches c =
+power : (c : tie.At-match-came)
+    → (c .match .power ≡ 2 ^ (paramsOf (c .before .args .variant) .key / 8)) × (c .match .power < 2 ^ 8)
+power c =
     ⊎-elim (λ w. (w .2 ∙ rw (w .1 .given .1) refl, omega (arith, w .2)))
     (⊎-elim (λ w. (w .2 ∙ rw (w .1 .given .1) refl, omega (arith, w .2)))
     (⊎-elim (λ w. (w .2 ∙ rw (w .1 .given .1) refl, omega (arith, w .2)))
@@ -22,12 +22,12 @@ branches c =
 
 mul-result : tie.Need-mul-result
 mul-result c =
-    let fits = xor-lt 8 (c .before .before .args .v) (c .before .match .branches) (omega arith) (branches (c .before) .1) in
+    let fits = xor-lt 8 (c .before .before .args .v) (c .before .match .power) (omega arith) (power (c .before) .1) in
     omega arith
 
 returns : tie.Need-returns
 unfolding domain
-returns c = rw (branches (c .before) .0) refl
+returns c = rw (power (c .before) .0) refl
 
 pub domain-constant-spec : {M : Type 1} → statement M
 domain-constant-spec =
