@@ -4,11 +4,11 @@
 // absolute path.
 
 use std::env;
-use std::path::PathBuf;
+use std::path::{Path, PathBuf};
 
 /// Links lib`name`.a of the folder that the environment's `variable` names,
 /// or of target/staticlib in the `repository`.
-pub fn link(name: &str, variable: &str, repository: PathBuf) -> Result<(), String> {
+pub fn link(name: &str, variable: &str, repository: &Path) -> Result<(), String> {
     println!("cargo:rerun-if-env-changed={variable}");
     let folder =
         env::var_os(variable).map_or_else(|| repository.join("target/staticlib"), PathBuf::from);

@@ -13,7 +13,7 @@ mod archive;
 mod cut;
 
 fn main() {
-    let link = || archive::link("sparkle_bench", "SPARKLE_BENCH_DIR", repository());
+    let link = || archive::link("sparkle_bench", "SPARKLE_BENCH_DIR", &repository());
     if let Err(message) = scalar().and_then(|()| link()) {
         eprintln!("cannot build the benchmark: {message}");
         exit(1);

@@ -1,5 +1,6 @@
-//! Links the port's archive `libhost.a`, which is looked for in the
-//! repository's target/staticlib, or in the folder that `HOST_DIR` names.
+//! Links the port's archives `libhost.a` and `libpacket.a`, which are looked
+//! for in the repository's target/staticlib, or in the folder that `HOST_DIR`
+//! names.
 
 use std::path::Path;
 use std::process::exit;
@@ -9,8 +10,10 @@ mod archive;
 
 fn main() {
     let repository = Path::new(env!("CARGO_MANIFEST_DIR")).join("../..");
-    if let Err(message) = archive::link("host", "HOST_DIR", repository) {
-        eprintln!("cannot link the port: {message}");
-        exit(1);
+    for name in ["host", "packet"] {
+        if let Err(message) = archive::link(name, "HOST_DIR", &repository) {
+            eprintln!("cannot link the port: {message}");
+            exit(1);
+        }
     }
 }

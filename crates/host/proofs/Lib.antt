@@ -1,13 +1,11 @@
 -- The laws that the proofs of `host` cite.
 -- Tests: tests of numbers that come out alike.
 -- ReadLaws, AnswerLaws, RunLaws: a call that is read, an answer that is written, the run of a list.
--- PacketLaws: a whole packet at once.
 -- TextArray, TextNumbers, TextLines, TextSheet: texts in their array, numbers in decimal, lines that fit, document 01's sheet.
 mod Tests
 mod ReadLaws
 mod AnswerLaws
 mod RunLaws
-mod PacketLaws
 pub mod TextArray
 pub mod TextNumbers
 pub mod TextLines

@@ -17,7 +17,8 @@ use Rattle.host.specs.declared.call.Head.{Head}
 use Rattle.host.specs.declared.call.Read.{Read}
 use Rattle.host.specs.declared.call.Read.the-variants.{Malformed, Call as ReadCall}
 use Rattle.host.specs.declared.run.Stop.{Stop}
-use Rattle.host.specs.CallList.{headOf, callLength, wellFormed, readOf, callOf, shownLength, answerOf, Ran, stopped, answered, runCalls, callsIn, answersOf, variantOf, isVariant, runList}
+use Rattle.host.specs.CallList.{headOf, callLength, wellFormed, readOf, callOf, shownLength, answerOf, Ran, stopped, answered, runCalls, callsIn, answersOf, runList}
+use Rattle.host.specs.Variant.{variantOf, isVariant}
 
 -- ---- what was read
 

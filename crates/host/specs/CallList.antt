@@ -4,8 +4,6 @@ use mathlib.Core.Bool.{Bool, false, cond}
 use mathlib.Core.List.{List, [], _∷_, _++_}
 use lib.ListN.{length, take, drop, getD}
 use lib.Dec.{ltb, leb, eqb}
-use Rattle.tc_sparkle_aead.specs.declared.variant.SparkleVariant.{SparkleVariant}
-use Rattle.tc_sparkle_aead.specs.declared.variant.SparkleVariant.the-variants.{«Schwaemm128_128», «Schwaemm256_128», «Schwaemm192_192», «Schwaemm256_256»}
 use Rattle.tc_sparkle_aead.specs.declared.phase.Direction.the-variants.{Encrypt, Decrypt}
 use Rattle.tc_sparkle_aead.specs.declared.engine.SparkleEngine.{SparkleEngine}
 use Rattle.tc_sparkle_aead.specs.Engine.{newEngine}
@@ -17,6 +15,7 @@ use Rattle.host.specs.declared.call.Read.the-variants.{Malformed, Call a
 use Rattle.host.specs.declared.reply.Reply.{Reply}
 use Rattle.host.specs.Reply.{replyOf}
 use Rattle.host.specs.Bytes.{numberAt, number}
+use Rattle.host.specs.Variant.{variantOf, isVariant}
 
 -- ---- A call in a list
 
@@ -148,15 +147,6 @@ callsIn (suc k) rest =
 unfoldable pub answersOf : SparkleEngine → List Call → List ℕ
 answersOf e [] = []
 answersOf e (c ∷ calls) = answerOf e c ++ answersOf (step e c .engine) calls
-
--- The variant of document 01's number.
-unfoldable pub variantOf : ℕ → SparkleVariant
-variantOf n =
-    cond (eqb n 1) «Schwaemm128_128»
-    (cond (eqb n 2) «Schwaemm256_128» (cond (eqb n 3) «Schwaemm192_192» «Schwaemm256_256»))
-
-unfoldable pub isVariant : ℕ → Bool
-isVariant n = cond (ltb n 1) false (leb n 4)
 
 -- The run of a list on a new engine of its variant.
 unfoldable pub runList : List ℕ → ℕ → Ran

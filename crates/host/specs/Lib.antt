@@ -1,6 +1,6 @@
 -- The definitions that the boundary's contracts cite.
 pub mod Reply
 pub mod Bytes
+pub mod Variant
 pub mod CallList
-pub mod Packet
 pub mod Text

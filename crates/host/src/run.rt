@@ -4,35 +4,17 @@ ghost use Prim.Native.Nat.{_+_, _-_, _≤_};
 ghost use lib.ListN.{length, drop};
 ghost use lib.Dec.{leb};
 ghost use Rattle.tc_sparkle_aead.specs.Calls.{written};
-ghost use Rattle.host.specs.CallList.{runCalls, variantOf, isVariant, runList};
+ghost use Rattle.host.specs.CallList.{runCalls, runList};
 use super::call;
 use super::call::Read;
+use super::variant;
 use tc_sparkle_aead::engine;
 use tc_sparkle_aead::engine::SparkleEngine;
-use tc_sparkle_aead::variant::SparkleVariant;
 
 // Where a run stopped: its return code and the place in the list.
 pub struct Stop {
     pub(crate) code: u8,
     pub(crate) place: usize,
-}
-
-// Document 01's numbers of the variants.
-pub(crate) fn is_variant(n: u8) -> bool
-    ensures { λ r. ⌜ r ≡ isVariant n ⌝ }
-{
-    if n < 1 { false } else { n <= 4 }
-}
-
-pub(crate) fn variant(n: u8) -> SparkleVariant
-    ensures { λ r. ⌜ r ≡ variantOf n ⌝ }
-{
-    match n {
-        1 => SparkleVariant::Schwaemm128_128,
-        2 => SparkleVariant::Schwaemm256_128,
-        3 => SparkleVariant::Schwaemm192_192,
-        _ => SparkleVariant::Schwaemm256_256,
-    }
 }
 
 // Whether an answer with n bytes behind its head has room.
@@ -88,8 +70,8 @@ pub(crate) fn run_list(list: &[u8], answers: &mut [u8]) -> Stop
         return Stop { code: 21, place: 0 };
     }
     let v = list[0];
-    if is_variant(v) {
-        run_calls(engine::new(variant(v)), list, answers)
+    if variant::is_variant(v) {
+        run_calls(engine::new(variant::variant(v)), list, answers)
     } else {
         Stop { code: 21, place: 0 }
     }

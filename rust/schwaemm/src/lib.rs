@@ -1,5 +1,6 @@
 //! Schwaemm authenticated encryption by the proved engine of this repository,
-//! which is linked as the archive `libhost.a` (docs/HOST.md).
+//! which is linked as the archives `libhost.a`, for lists of calls, and
+//! `libpacket.a`, for whole packets (docs/HOST.md).
 //!
 //! ```
 //! use schwaemm::{Variant, open, seal};
@@ -25,7 +26,7 @@
 //! # What crosses the boundary
 //!
 //! Numbers and byte slices, nothing else. An engine lives inside one call of
-//! the archive: it begins new, and nothing of it is left when the call returns
+//! an archive: it begins new, and nothing of it is left when the call returns
 //! but the answers. So each function here stands alone, and may be called from
 //! any thread. A nonce that comes again in another call is not noticed; within
 //! one list of [`Calls`] it is, with 11.
@@ -42,7 +43,7 @@
 //! Lists and answers are overwritten with zeros when they are dropped, and
 //! when a list has to move as it grows, by writes that the compiler has to
 //! keep. Where opening fails, what could have been written of the message is
-//! overwritten too. After each call of the archive 8 KiB of the stack below the
+//! overwritten too. After each call of an archive 8 KiB of the stack below the
 //! caller's are overwritten: an engine is a value there, and its copies hold
 //! key and state. That is more than the calls take (docs/PERFORMANCE.md), and
 //! as much as can be done from outside; nothing is proved of it.

@@ -1,13 +1,13 @@
-//! The archive's part of the stack, written over.
+//! The archives' part of the stack, written over.
 
 use std::mem::MaybeUninit;
 use std::sync::atomic::{Ordering, compiler_fence};
 
-/// Words of eight bytes that are written over: 8 KiB, where the archive's calls
+/// Words of eight bytes that are written over: 8 KiB, where the archives' calls
 /// take up to 6 KiB (docs/PERFORMANCE.md).
 const WORDS: usize = 1024;
 
-/// Writes zeros over the stack below the caller's, where a call of the archive
+/// Writes zeros over the stack below the caller's, where a call of an archive
 /// that has just returned kept its engine.
 #[inline(never)]
 pub(crate) fn wipe() {

@@ -128,6 +128,14 @@ struct Secrets {
 }
 
 impl Secrets {
+    /// A list without calls.
+    fn none(variant: usize) -> Self {
+        Self {
+            list: List::new(variant as u8 + 1),
+            contents: Vec::new(),
+        }
+    }
+
     /// Makes a call whose runs, the last `n` bytes of it, are contents.
     fn call(&mut self, n: usize, call: impl FnOnce(&mut List)) {
         call(&mut self.list);
@@ -137,14 +145,11 @@ impl Secrets {
 
     /// A message sealed in pieces, a query, the tag, a reset, and perhaps
     /// another start for sealing.
-    fn new(variant: usize, second: Second) -> Self {
+    fn sealing(variant: usize, second: Second) -> Self {
         let sizes = VARIANTS[variant];
         let (mut key, mut nonce) = (vec![1; sizes.key_bytes()], vec![2; sizes.nonce_bytes()]);
         let (size, pair) = (sizes.tag_bytes() as u64, key.len() + nonce.len());
-        let mut new = Self {
-            list: List::new(variant as u8 + 1),
-            contents: Vec::new(),
-        };
+        let mut new = Self::none(variant);
         new.call(pair + 20, |list| {
             list.init(Direction::Sealing, size, &key, &nonce, &[3; 20]);
         });
@@ -168,21 +173,41 @@ impl Secrets {
         });
         new
     }
+
+    /// A packet opened in pieces, its last byte changed by `damage`.
+    fn opening(variant: usize, damage: u8) -> Self {
+        let Job {
+            key,
+            nonce,
+            header,
+            mut input,
+            ..
+        } = Job::new(variant, Operation::Open, 37, 150);
+        *input.last_mut().expect("a tag") ^= damage;
+        let size = VARIANTS[variant].tag_bytes() as u64;
+        let mut new = Self::none(variant);
+        new.call(key.len() + nonce.len() + header.len(), |list| {
+            list.init(Direction::Opening, size, &key, &nonce, &header);
+        });
+        for piece in input.chunks(33) {
+            let output = [6; 64];
+            new.call(piece.len() + output.len(), |list| {
+                list.process_bytes(piece, &output);
+            });
+        }
+        new.call(64, |list| list.do_final(&[7; 64]));
+        new
+    }
 }
 
 /// A list of calls.
-fn list(variant: usize, second: Second) -> bool {
-    let secrets = Secrets::new(variant, second);
+fn list(variant: usize, what: &str, secrets: &Secrets, expected: Expected) -> bool {
     let bytes = secrets.list.bytes();
     let mut answers = vec![0; secrets.list.answers_len()];
     for contents in &secrets.contents {
         make_undefined(&bytes[contents.clone()]);
     }
-    let expected = match second {
-        Second::None => Expected::None,
-        _ => Expected::Some,
-    };
-    let name = format!("variant {}, a list, {}", variant + 1, second.name());
+    let name = format!("variant {}, a list, {what}", variant + 1);
     let fine = case(&name, expected, || {
         black_box(host::run(bytes, &mut answers));
     });
@@ -203,7 +228,16 @@ fn main() -> ExitCode {
             fine &= packet(variant, Operation::Open, length, true);
         }
         for second in Second::ALL {
-            fine &= list(variant, second);
+            let expected = match second {
+                Second::None => Expected::None,
+                _ => Expected::Some,
+            };
+            let secrets = Secrets::sealing(variant, second);
+            fine &= list(variant, second.name(), &secrets, expected);
+        }
+        for (what, damage) in [("opening", 0), ("opening, damaged", 1)] {
+            let secrets = Secrets::opening(variant, damage);
+            fine &= list(variant, what, &secrets, Expected::Some);
         }
     }
     if fine {

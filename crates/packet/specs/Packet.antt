@@ -8,9 +8,9 @@ use Rattle.tc_sparkle_aead.specs.declared.engine.SparkleEngine.{SparkleEngine}
 use Rattle.tc_sparkle_aead.specs.Variant.{paramsOf}
 use Rattle.tc_sparkle_aead.specs.Engine.{newEngine}
 use Rattle.claims.specs.Call.{Call, Outcome, step}
 use Rattle.host.specs.declared.reply.Reply.{Reply}
 use Rattle.host.specs.Reply.{replyOf}
-use Rattle.host.specs.CallList.{variantOf, isVariant}
+use Rattle.host.specs.Variant.{variantOf, isVariant}
 
 -- The reply of the first call that is refused, or of the end; and the output.
 pub record Packed : Type 0 where

@@ -1,9 +1,9 @@
 -- Each arm by its number, the last by what is left.
 use mathlib.Core.Path.{refl}
 use borrow.Author.Tests.{ne-eqb}
-use Rattle.host.specs.CallList.{variantOf}
-use Rattle.host.proofs.run.variant.Statement.{statement}
-use Rattle.host.proofs.run.variant.Tie as tie
+use Rattle.host.specs.Variant.{variantOf}
+use Rattle.host.proofs.variant.variant.Statement.{statement}
+use Rattle.host.proofs.variant.variant.Tie as tie
 
 returns : tie.Need-returns
 unfolding variantOf

@@ -1,19 +1,19 @@
 -- The export: the reply's number is returned, its first value goes out by `first`.
 use mathlib.Core.Path.{ap}
 use Rattle.host.specs.declared.reply.Reply.{Reply}
 use borrow.Author.Needs.{needs}
-use Rattle.host.proofs.schwaemm_seal.Statement.{statement}
-use Rattle.host.proofs.schwaemm_seal.Tie as tie
+use Rattle.packet.proofs.schwaemm_seal.Statement.{statement}
+use Rattle.packet.proofs.schwaemm_seal.Tie as tie
 
--- src/lib.rt:46:9
+-- src/lib.rt:26:9
 packet-requires : tie.Need-packet-requires
 packet-requires c κs = search needs
 
--- src/lib.rt:32:1
+-- src/lib.rt:12:1
 same-length : tie.Need-same-length
 same-length c = search needs
 
--- src/lib.rt:32:1
+-- src/lib.rt:12:1
 returns : tie.Need-returns
 returns c =
     let done = c .before .before .packet in

@@ -7,6 +7,7 @@ use native.Mathlib.Omega.{arith}
 use borrow.Author.Tests.{ltb-false}
 use lib.Dec.{ltb}
 use lib.ListN.{length, take, drop, length-drop, drop-of-length-le}
+use lib.Seq.{take-all}
 use Rattle.schwaemm.specs.Bytes.{same}
 use Rattle.schwaemm.specs.Schwaemm.{Params}
 use Rattle.tc_sparkle_aead.specs.declared.variant.SparkleVariant.{SparkleVariant}
@@ -26,10 +27,9 @@ use Rattle.tc_sparkle_aead.specs.Checks.{opening, then, room, whole, phaseCheck
 use Rattle.tc_sparkle_aead.specs.Checks.{heldIn}
 use Rattle.tc_sparkle_aead.specs.Calls.{beginData, receivedTag, openTag, sealEnd, openEndBy, openEnd, dataBy, dataAnswer, finalBy, finalAnswer, init, processBytes, processBytesOut, doFinal, doFinalOut}
 use Rattle.claims.specs.Call.{Outcome, outcome, startOutcome, step}
-use Rattle.host.specs.CallList.{variantOf, isVariant}
-use Rattle.host.specs.Packet.{endBy, endPacket, dataPacket, startBy, packetOf}
-use Rattle.host.specs.Packet.{dataBy as packetBy}
-use Rattle.host.proofs.RunLaws.{from-place}
+use Rattle.host.specs.Variant.{variantOf, isVariant}
+use Rattle.packet.specs.Packet.{endBy, endPacket, dataPacket, startBy, packetOf}
+use Rattle.packet.specs.Packet.{dataBy as packetBy}
 
 -- ---- counts
 
@@ -136,7 +136,7 @@ module _ (n : ℕ) (e : SparkleEngine) (out last : List ℕ) (d : Done)
     (done : d ≡ doFinal e (take (length out - n) (drop n out)))
     (wrote : last ≡ doFinalOut e (take (length out - n) (drop n out))) where
   lent : take (length out - n) (drop n out) ≡ drop n out
-  lent = from-place out n
+  lent = take-all (length out - n) (drop n out) (simp length-drop (omega arith))
 
   pub end-out : take n out ++ (last ++ drop (length out - n) (drop n out)) ≡ endPacket n e out .out
   unfolding endPacket step

@@ -2,10 +2,10 @@
 ghost use mathlib.Core.Path.{_≡_};
 ghost use Prim.Native.Nat.{_≤_};
 ghost use lib.ListN.{length};
-ghost use Rattle.host.specs.Packet.{endPacket, dataPacket, packetOf};
-use super::reply;
-use super::reply::Reply;
-use super::run;
+ghost use Rattle.packet.specs.Packet.{endPacket, dataPacket, packetOf};
+use host::reply;
+use host::reply::Reply;
+use host::variant;
 use tc_sparkle_aead::aead_cipher;
 use tc_sparkle_aead::aead_error::AeadResult;
 use tc_sparkle_aead::aead_init_error::AeadInitResult;
@@ -58,14 +58,14 @@ pub(crate) fn packet(
     ensures { λ r. ⌜ r ≡ packetOf v d (now (key .entry)) (now (nonce .entry)) (now (header .entry)) (now (input .entry)) (now (out .entry)) .reply ⌝ }
     ensures { λ _. ⌜ now (out .exit) ≡ packetOf v d (now (key .entry)) (now (nonce .entry)) (now (header .entry)) (now (input .entry)) (now (out .entry)) .out ⌝ }
 {
-    if !run::is_variant(v) {
+    if !variant::is_variant(v) {
         return Reply {
             number: 23,
             first: 0,
             second: 0,
         };
     }
-    let variant = run::variant(v);
+    let variant = variant::variant(v);
     let s = aead_cipher::init(
         engine::new(variant),
         d,

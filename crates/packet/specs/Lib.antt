@@ -1,0 +1,2 @@
+-- The definitions that the contracts of whole packets cite.
+pub mod Packet
