@@ -8,7 +8,6 @@ use tc_sparkle_aead::engine;
 use tc_sparkle_aead::engine::Done;
 use tc_sparkle_aead::engine::SparkleEngine;
 use tc_sparkle_aead::phase::Direction;
-use tc_sparkle_aead::variant::SparkleVariant;
 
 // What a call answered, whether the whole output is as expected, and the engine afterwards.
 pub struct Played {
@@ -30,15 +29,6 @@ fn direction(way: u8) -> Direction {
         Direction::Encrypt
     } else {
         Direction::Decrypt
-    }
-}
-
-pub fn variant(way: u8) -> SparkleVariant {
-    match way {
-        1 => SparkleVariant::Schwaemm128_128,
-        2 => SparkleVariant::Schwaemm256_128,
-        3 => SparkleVariant::Schwaemm192_192,
-        _ => SparkleVariant::Schwaemm256_256,
     }
 }
 

@@ -6,6 +6,7 @@ mod record;
 
 use calls::Played;
 use host::reply::Reply;
+use host::variant;
 use libc::STDOUT_FILENO;
 use record::Head;
 use tc_sparkle_aead::engine;
@@ -57,7 +58,7 @@ fn malformed(run: Run) -> Stepped {
 
 fn begin() -> Stepped {
     more(Run {
-        engine: engine::new(calls::variant(1)),
+        engine: engine::new(variant::variant(1)),
         lists: 0,
         call: 0,
         calls: 0,
@@ -68,7 +69,7 @@ fn begin() -> Stepped {
 // A new list has a new engine.
 fn list(run: Run, way: u8) -> Stepped {
     more(Run {
-        engine: engine::new(calls::variant(way)),
+        engine: engine::new(variant::variant(way)),
         lists: std::num::wrapping_add_u64(run.lists, 1),
         call: 0,
         calls: run.calls,
