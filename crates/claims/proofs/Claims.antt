@@ -30,7 +30,7 @@ use Rattle.claims.specs.Messages.{Each, outputs, headers, datas, HeaderC
 use Rattle.claims.specs.Messages.{Completes, Rejects, RoundTrip}
 use Rattle.claims.specs.Messages.{Betweens, takenHeader, takenData, begunEngine, OpenedUnrefused, Asked, answerOf}
 use Rattle.claims.specs.Messages.{released, Writes, finishedBytes, messageOf, OpenEndExact, Ended, Before, stepsBefore}
-use Rattle.claims.specs.Messages.{stepsAfterInit, Keeps}
+use Rattle.claims.specs.Messages.{stepsAfterInit, Keeps, handed, UnderWay}
 use Rattle.claims.specs.Refused.{Refused, OfStart, Unchanging, Numbered, Returned, Wiped, Unchanged, Failed, lent}
 use Rattle.claims.specs.Machine.{Machine, engine, after, counts, Demand2, Demand3}
 use Rattle.claims.specs.Rejected.{notInitialized, fixed, untouched, skipping, inventing, finalizing}
@@ -44,6 +44,7 @@ use Rattle.claims.proofs.Answers.{answers}
 use Rattle.claims.proofs.Demand2.{open-end-exact, mac-bytes, steps-before-end, end-tag-and-steps, end-accepted}
 use Rattle.claims.proofs.Demand2.{steps-reset, steps-new, steps-refused-start}
 use Rattle.claims.proofs.Demand2.{final-keeps-all, message-bytes, end-bytes, phase-is, held-at-most, held-at-most-64}
+use Rattle.claims.proofs.SoFar.{so-far, finished}
 use Rattle.claims.proofs.EngineCounts.{sheet-counted}
 use Rattle.claims.proofs.EngineSeals.{engine-demand-2}
 use Rattle.claims.proofs.Rejected.{notInitialized-fails-2, notInitialized-fails-3, fixed-fails-2, fixed-fails-3}
@@ -261,6 +262,19 @@ steps-after-a-refused-start = steps-refused-start
 pub final-stays : (e : SparkleEngine) (d : Direction) → e .current .phase ≡ Final d → (calls : List Call)
     → Each Keeps calls → runFrom e calls ≡ e
 final-stays = final-keeps-all
+
+-- 2.2 and 2.3, of every list of calls, with refused calls, queries and resets anywhere: while a message is under way, the
+-- bytes handed out since its start, or since the reset that restarted it, are the specification's for the header and the
+-- data taken so far.
+pub bytes-so-far-are-the-specifications : (v : SparkleVariant) (calls : List Call) → UnderWay (reader v calls .phase)
+    → handed (newEngine v) [] calls ≡ released (paramsOf v) (reader v calls)
+bytes-so-far-are-the-specifications = so-far
+
+-- An end that is not refused completes them: sealing, to the packet; opening, to what the packet decrypts to.
+pub end-completes-the-bytes : (v : SparkleVariant) (calls : List Call) (out : List ℕ) (n : ℕ)
+    → step (run v calls) (Call.end out) .outcome ≡ ok n
+    → handed (newEngine v) [] (calls ++ (Call.end out ∷ [])) ≡ finishedBytes (paramsOf v) (reader v calls)
+end-completes-the-bytes = finished
 
 -- 2.2 and 2.3, call by call: an accepted data call writes the specification's next bytes, and an accepted end the rest.
 pub data-call-writes-the-next-bytes : (v : SparkleVariant) (calls : List Call) (input out : List ℕ) (n : ℕ)

@@ -105,7 +105,7 @@ end-passed (Ok m) true false n e = absurd (let z : _≡_ {A = ℕ} 0 1 = cc in o
 
 module _ (v : SparkleVariant) (calls : List Call) (out : List ℕ) (n : ℕ)
     (accepted : step (run v calls) (Call.end out) .outcome ≡ Outcome.ok n) where
-  passed : (endCheck (paramsOf v) (reader v calls .phase) (heldOf (paramsOf v) (reader v calls)) (length out) ≡ Ok n)
+  pub passed : (endCheck (paramsOf v) (reader v calls .phase) (heldOf (paramsOf v) (reader v calls)) (length out) ≡ Ok n)
       × (cond (opening (reader v calls .phase))
       (verified (paramsOf v) (reader v calls .key) (reader v calls .nonce) (reader v calls .header)
       (reader v calls .body)) true ≡ true)

@@ -9,6 +9,7 @@
 -- Messages: whole messages with room are accepted.
 -- Answers: every answer from what the reader keeps.
 -- Demand2: bytes, tag, held bytes and steps, call by call.
+-- SoFar: the bytes of every list of calls, resets included.
 -- Demand1: where each refusal comes back and what it leaves.
 -- PublicState: what of an engine decides its sheet, beside the verdicts.
 -- Demand3: sheets and verdicts, from an invariant between engine and reader.
@@ -29,6 +30,7 @@ pub mod Whole
 pub mod Messages
 pub mod Answers
 pub mod Demand2
+pub mod SoFar
 pub mod Demand1
 pub mod PublicState
 pub mod Demand3

@@ -120,7 +120,7 @@ module _ (d : Direction) (key nonce : List ℕ) where
       (going-step v e r w c (b .0) g)
 
 -- before the data nothing is given
-released-none : (p : Params) (loaded : Bool) (key nonce initial : List ℕ) (phase : Phase) (header body : List ℕ) → body ≡ []
+pub released-none : (p : Params) (loaded : Bool) (key nonce initial : List ℕ) (phase : Phase) (header body : List ℕ) → body ≡ []
     → released p (kept loaded key nonce initial phase header body) ≡ []
 unfolding released given
 released-none p loaded key nonce initial phase header body e =
@@ -133,11 +133,11 @@ wrote-none : (l : Left) → l .buffer ≡ [] → wrote l ≡ []
 unfolding wrote
 wrote-none l e = ap (take (countOf (l .outcome))) e ∙ take-nil (countOf (l .outcome))
 
-wrote-refused : (l : Left) (values : List ℕ) → l .outcome ≡ Outcome.no values → wrote l ≡ []
+pub wrote-refused : (l : Left) (values : List ℕ) → l .outcome ≡ Outcome.no values → wrote l ≡ []
 unfolding wrote
 wrote-refused l values o = ap (λ (x : Outcome). take (countOf x) (l .buffer)) o
 
-unwritten : (a b : List ℕ) → b ≡ [] → a ≡ a ++ b
+pub unwritten : (a b : List ℕ) → b ≡ [] → a ≡ a ++ b
 unwritten a b e = sym (append-nil a) ∙ ap (λ (l : List ℕ). a ++ l) (sym e)
 
 -- a header call gives nothing
@@ -189,7 +189,7 @@ released-message v e r w input out =
         ∙ unwritten (released (paramsOf v) r) _ (ap (λ (y : Outcome). take (countOf y) (step e (Call.message input out) .buffer)) o)
 
 -- what calls between start and end give is what they wrote
-released-step : (v : SparkleVariant) (e : SparkleEngine) (r : Reader) → Follows v e r → (c : Call) → Between e c
+pub released-step : (v : SparkleVariant) (e : SparkleEngine) (r : Reader) → Follows v e r → (c : Call) → Between e c
     → released (paramsOf v) (read (paramsOf v) r c .reader) ≡ released (paramsOf v) r ++ wrote (step e c)
 unfolding step
 released-step v e r w (Call.start d key nonce size h) b = absurd b

@@ -265,6 +265,29 @@ pub record Writes (before after out buffer : List ℕ) (n : ℕ) : Type 0 where
   pub rest : drop n buffer ≡ drop n out
   pub length-same : length buffer ≡ length out
 
+-- The bytes that the calls of a list have handed out since the last start or reset, behind those of `before`.
+abbrev pub handedBy : Call → (before more : List ℕ) → List ℕ
+handedBy (Call.start d key nonce size h) before more = []
+handedBy (Call.header input) before more = before ++ more
+handedBy (Call.message input out) before more = before ++ more
+handedBy (Call.end out) before more = before ++ more
+handedBy Call.reset before more = []
+handedBy Call.tag before more = before ++ more
+handedBy (Call.update n) before more = before ++ more
+handedBy (Call.output n) before more = before ++ more
+
+unfoldable pub handed : SparkleEngine → (before : List ℕ) → List Call → List ℕ
+handed e before [] = before
+handed e before (c ∷ calls) = handed (step e c .engine) (handedBy c before (wrote (step e c))) calls
+
+-- A message is under way: it has a start and no end.
+abbrev pub UnderWay : Phase → Type 0
+UnderWay Uninitialized = ⊥
+UnderWay (Init d) = Unit {0}
+UnderWay (Aad d) = Unit {0}
+UnderWay (Data d) = Unit {0}
+UnderWay (Final d) = ⊥
+
 -- The bytes of a whole message: sealing, the packet; opening, what the packet decrypts to.
 unfoldable pub finishedBytes : Params → Reader → List ℕ
 finishedBytes p r =
