@@ -1,5 +1,5 @@
--- Demand 2, the bytes: a message without refusal, however its data is cut, is written as the specification gives it. With
--- the answers and the steps the engine meets demand 2.
+-- Demand 2, the bytes: a message without refusal, however its data is cut, is written as the specification gives it, and
+-- so are the bytes of every list of calls. With the answers and the steps the engine meets demand 2.
 use mathlib.Core.Path.{_≡_, refl, sym, ap, ap₂, _∙_}
 use mathlib.Core.List.{List, [], _∷_, _++_, append-assoc, append-nil}
 use Prim.Native.Nat.{ℕ}
@@ -16,15 +16,17 @@ use Rattle.tc_sparkle_aead.specs.Checks.{dataCheck}
 use Rattle.tc_sparkle_aead.specs.Engine.{newEngine}
 use Rattle.claims.specs.Call.{Call, outcome, step, line, run, runFrom}
 use Rattle.claims.specs.Call.Outcome.{ok}
-use Rattle.claims.specs.Reader.{Reader, heldOf, readMessage, read, readFrom}
-use Rattle.claims.specs.Messages.{outputs, Betweens, begunEngine, wrote, answerOf}
+use Rattle.claims.specs.Reader.{Reader, heldOf, readMessage, read, readFrom, reader}
+use Rattle.claims.specs.Messages.{outputs, Betweens, begunEngine, wrote, answerOf, handedBy, handed, UnderWay, released}
+use Rattle.claims.specs.Messages.{finishedBytes}
 use Rattle.claims.specs.Machine.{engine, linesOf, sheetOf, bytesOf, Piece, dataCalls, joined, pieceCalls, AllOk}
-use Rattle.claims.specs.Machine.{Demand2}
+use Rattle.claims.specs.Machine.{after, handedOf, Demand2}
 use Rattle.claims.specs.Machine.AllOk.{none, more}
 use Rattle.claims.proofs.Kept.{Follows}
 use Rattle.claims.proofs.Follows.{follows-step}
 use Rattle.claims.proofs.Written.{outcome-ok}
 use Rattle.claims.proofs.Whole.{startedReader, begun-follows, sealed-taken, opened-taken}
+use Rattle.claims.proofs.SoFar.{so-far, finished}
 use Rattle.claims.proofs.Meets.{answered}
 use Rattle.claims.proofs.EngineMeets.{linked, engine-answered}
 use Rattle.claims.proofs.EngineCounts.{engine-counted}
@@ -128,7 +130,38 @@ module _ (v : SparkleVariant) (key nonce header : List ℕ) (size : ℕ) (pieces
       (messages-between (begunEngine v [] Decrypt key nonce size header) pieces) (g .end-ok) .bytes-are
       ∙ ap₂ (λ (h m : List ℕ). decrypt (paramsOf v) key nonce h (body (paramsOf v) m)) (g .header-is) (g .body-is)
 
+-- of every list of calls
+handed-is : (e : SparkleEngine) (before : List ℕ) (calls : List Call) → handedOf engine e before calls ≡ handed e before calls
+unfolding handed wrote line
+handed-is e before [] = refl
+handed-is e before (c ∷ calls) = handed-is (step e c .engine) (handedBy c before (wrote (step e c))) calls
+
+after-is : (e : SparkleEngine) (calls : List Call) → after engine e calls ≡ runFrom e calls
+unfolding runFrom
+after-is e [] = refl
+after-is e (c ∷ calls) = after-is (step e c .engine) calls
+
+engine-so-far : (v : SparkleVariant) (calls : List Call) → UnderWay (reader v calls .phase)
+    → handedOf engine (engine .new v) [] calls ≡ released (paramsOf v) (reader v calls)
+engine-so-far v calls u = handed-is (newEngine v) [] calls ∙ so-far v calls u
+
+engine-completed : (v : SparkleVariant) (calls : List Call) (out : List ℕ) (n : ℕ)
+    → engine .step (after engine (engine .new v) calls) (Call.end out) .line .outcome ≡ ok n
+    → handedOf engine (engine .new v) [] (calls ++ (Call.end out ∷ [])) ≡ finishedBytes (paramsOf v) (reader v calls)
+unfolding run line
+engine-completed v calls out n q =
+    handed-is (newEngine v) [] (calls ++ (Call.end out ∷ []))
+    ∙ finished v calls out n
+    (ap (λ (e : SparkleEngine). step e (Call.end out) .outcome) (sym (after-is (newEngine v) calls)) ∙ q)
+
 -- The engine meets demand 2.
 pub engine-demand-2 : Demand2 engine
 engine-demand-2 =
-    record { answers = engine-answered; seals = engine-seals; opens = engine-opens; counted = engine-counted }
+    record {
+      answers = engine-answered;
+      seals = engine-seals;
+      opens = engine-opens;
+      so-far = engine-so-far;
+      completed = engine-completed;
+      counted = engine-counted;
+    }

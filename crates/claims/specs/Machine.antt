@@ -19,7 +19,7 @@ use Rattle.tc_sparkle_aead.specs.Engine.{newEngine}
 use Rattle.claims.specs.Call.{Call, Alike, step, Line, line}
 use Rattle.claims.specs.Call.Outcome.{ok}
 use Rattle.claims.specs.Reader.{Reader, newReader, read, verdicts, reader}
-use Rattle.claims.specs.Messages.{countOf, answerOf}
+use Rattle.claims.specs.Messages.{countOf, answerOf, handedBy, UnderWay, released, finishedBytes}
 
 -- ---- Machines
 
@@ -62,6 +62,13 @@ abbrev pub bytesOf : (m : Machine) → m .State → List Call → List ℕ
 bytesOf m s [] = []
 bytesOf m s (c ∷ calls) =
     take (countOf (m .step s c .line .outcome)) (m .step s c .buffer) ++ bytesOf m (m .step s c .state) calls
+
+-- The bytes that it has handed out since the last start or reset, behind those of `before`.
+abbrev pub handedOf : (m : Machine) → m .State → (before : List ℕ) → List Call → List ℕ
+handedOf m s before [] = before
+handedOf m s before (c ∷ calls) =
+    handedOf m (m .step s c .state)
+    (handedBy c before (take (countOf (m .step s c .line .outcome)) (m .step s c .buffer))) calls
 
 -- ---- Demand 2
 
@@ -140,6 +147,13 @@ pub record Demand2 (m : Machine) : Type 0 where
       → AllOk (sheetOf m v (pieceCalls Decrypt key nonce header size pieces out))
       → bytesOf m (m .new v) (pieceCalls Decrypt key nonce header size pieces out)
       ≡ decrypt (paramsOf v) key nonce header (bodyOf (paramsOf v) (joined pieces))
+  -- over every list of calls, resets included, the bytes handed out are the specification's for what was taken
+  pub so-far : (v : SparkleVariant) (calls : List Call) → UnderWay (reader v calls .phase)
+      → handedOf m (m .new v) [] calls ≡ released (paramsOf v) (reader v calls)
+  -- and an end that is not refused completes them
+  pub completed : (v : SparkleVariant) (calls : List Call) (out : List ℕ) (n : ℕ)
+      → m .step (after m (m .new v) calls) (Call.end out) .line .outcome ≡ ok n
+      → handedOf m (m .new v) [] (calls ++ (Call.end out ∷ [])) ≡ finishedBytes (paramsOf v) (reader v calls)
   -- the steps of every line are the formula's
   pub counted : (v : SparkleVariant) (calls : List Call)
       → map (λ (l : Line). l .steps) (sheetOf m v calls) ≡ counts (paramsOf v) newReader 0 calls
