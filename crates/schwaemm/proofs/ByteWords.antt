@@ -10,46 +10,9 @@ use lib.Bits.{bitXor, xor-lt, xor-shr, xor-mod}
 use lib.ListN.{length, take, drop, getD, replicate}
 use lib.Seq.{take-nil, drop-nil}
 use Rattle.sparkle.specs.Sparkle.{xors}
-use Rattle.sparkle.proofs.Bounds.{Words, words-xors}
+use Rattle.sparkle.proofs.Below.{Words, Bytes, below-at, below-append, below-take, below-drop, below-xors, below-replicate}
+use Rattle.sparkle.proofs.Below.Below.{none, more}
 use Rattle.schwaemm.specs.Bytes.{toWords, toBytes}
-
--- every element is below 2^8
-pub data Bytes : List ℕ → Type 0 where
-  none : Bytes []
-  more : {x : ℕ} {b : List ℕ} → x < 2 ^ 8 → Bytes b → Bytes (x ∷ b)
-
-pub bytes-of : (b : List ℕ) → ((i : ℕ) → getD b i 0 < 2 ^ 8) → Bytes b
-bytes-of [] h = none
-bytes-of (x ∷ b) h = more (h zero) (bytes-of b (λ i. h (suc i)))
-
-pub bytes-at : {b : List ℕ} → Bytes b → (i : ℕ) → getD b i 0 < 2 ^ 8
-bytes-at none i = lit< tt
-bytes-at (more h hs) zero = h
-bytes-at (more h hs) (suc i) = bytes-at hs i
-
-pub bytes-append : {a b : List ℕ} → Bytes a → Bytes b → Bytes (a ++ b)
-bytes-append none k = k
-bytes-append (more h hs) k = more h (bytes-append hs k)
-
-pub bytes-take : (n : ℕ) {b : List ℕ} → Bytes b → Bytes (take n b)
-bytes-take zero hs = none
-bytes-take (suc n) none = none
-bytes-take (suc n) (more h hs) = more h (bytes-take n hs)
-
-pub bytes-drop : (n : ℕ) {b : List ℕ} → Bytes b → Bytes (drop n b)
-bytes-drop zero hs = hs
-bytes-drop (suc n) none = none
-bytes-drop (suc n) (more h hs) = bytes-drop n hs
-
-pub bytes-xors : {a b : List ℕ} → Bytes a → Bytes b → Bytes (xors a b)
-unfolding xors
-bytes-xors none k = none
-bytes-xors (more h hs) none = none
-bytes-xors (more {x = x} h hs) (more {x = y} k ks) = more (xor-lt 8 x y h k) (bytes-xors hs ks)
-
-pub bytes-replicate : (n : ℕ) {x : ℕ} → x < 2 ^ 8 → Bytes (replicate n x)
-bytes-replicate zero h = none
-bytes-replicate (suc n) h = more h (bytes-replicate n h)
 
 pub length-toBytes : (w : List ℕ) → length (toBytes w) ≡ length w * 4
 unfolding toBytes
@@ -74,12 +37,12 @@ bytes-toBytes (x ∷ w) =
 
 pub words-toWords : {b : List ℕ} → Bytes b → Words (toWords b)
 unfolding toWords
-words-toWords none = Words.none
-words-toWords (more {x = x} h none) = Words.more {x = x} (omega arith) Words.none
-words-toWords (more {x = x} h (more {x = y} k none)) = Words.more {x = x + y * 2 ^ 8} (omega arith) Words.none
-words-toWords (more {x = x} h (more {x = y} k (more {x = z} l none))) = Words.more {x = x + y * 2 ^ 8 + z * 2 ^ 16} (omega arith) Words.none
+words-toWords none = none
+words-toWords (more {x = x} h none) = more {x = x} (omega arith) none
+words-toWords (more {x = x} h (more {x = y} k none)) = more {x = x + y * 2 ^ 8} (omega arith) none
+words-toWords (more {x = x} h (more {x = y} k (more {x = z} l none))) = more {x = x + y * 2 ^ 8 + z * 2 ^ 16} (omega arith) none
 words-toWords (more {x = x} h (more {x = y} k (more {x = z} l (more {x = t} m hs)))) =
-    Words.more {x = x + y * 2 ^ 8 + z * 2 ^ 16 + t * 2 ^ 24} (omega arith) (words-toWords hs)
+    more {x = x + y * 2 ^ 8 + z * 2 ^ 16 + t * 2 ^ 24} (omega arith) (words-toWords hs)
 
 pub toBytes-toWords : {b : List ℕ} → Bytes b → length b % 4 ≡ 0 → toBytes (toWords b) ≡ b
 unfolding toBytes toWords
@@ -101,8 +64,8 @@ toBytes-toWords (more {x = x} h (more {x = y} k (more {x = z} l (more {x = t} m 
 
 pub toWords-toBytes : {w : List ℕ} → Words w → toWords (toBytes w) ≡ w
 unfolding toBytes toWords
-toWords-toBytes Words.none = refl
-toWords-toBytes (Words.more {x = x} h hs) =
+toWords-toBytes none = refl
+toWords-toBytes (more {x = x} h hs) =
     let d1 : x / 2 ^ 16 * 2 ^ 8 + x / 2 ^ 8 % 2 ^ 8 ≡ x / 2 ^ 8 = omega arith in
     let d2 : x / 2 ^ 24 * 2 ^ 8 + x / 2 ^ 16 % 2 ^ 8 ≡ x / 2 ^ 16 = omega arith in
     let d3 : x / 2 ^ 24 % 2 ^ 8 ≡ x / 2 ^ 24 = omega arith in
@@ -185,4 +148,4 @@ pub toWords-xors : {a b : List ℕ} → Bytes a → Bytes b → length a % 4 ≡
 toWords-xors {a} {b} ha hb ea eb =
     ap₂ (λ (u v : List ℕ). toWords (xors u v)) (sym (toBytes-toWords ha ea)) (sym (toBytes-toWords hb eb))
     ∙ ap toWords (sym (toBytes-xors (toWords a) (toWords b)))
-    ∙ toWords-toBytes (words-xors (words-toWords ha) (words-toWords hb))
+    ∙ toWords-toBytes (below-xors (words-toWords ha) (words-toWords hb))

@@ -13,10 +13,11 @@ use lib.ListN.{length, take, getD, replicate, length-append, length-take, length
 use lib.Seq.{take-at}
 use Rattle.sparkle.specs.Sparkle.{xors, state}
 use Rattle.sparkle.proofs.Lengths.{length-sparkle, length-xors}
-use Rattle.sparkle.proofs.Bounds.{Words, words-at, words-set, words-sparkle, words-take, words-drop, words-append, words-xors, state-of-words}
+use Rattle.sparkle.proofs.Below.{Below, Words, Bytes, below-at, below-set, below-take, below-drop, below-append, below-xors, below-replicate}
+use Rattle.sparkle.proofs.Bounds.{words-sparkle, state-of-words}
 use Rattle.schwaemm.specs.Bytes.{toWords, ifEmpty}
 use Rattle.schwaemm.specs.Schwaemm.{Params, Sizes, outer, inner, permute, feistelSwap, rho1, whitening, mix, crypt, padded, domain, withDomain, lastV, mixLast, initialise, absorbBlock, absorb, prepared, messageBlock, message}
-use Rattle.schwaemm.proofs.ByteWords.{length-toBytes, length-toWords, Bytes, bytes-append, bytes-take, bytes-replicate, words-toWords}
+use Rattle.schwaemm.proofs.ByteWords.{length-toBytes, length-toWords, words-toWords}
 
 -- the words of a state
 abbrev pub stateLength : Params → ℕ
@@ -157,25 +158,25 @@ module _ (p : Params) where
   words-withDomain v {s} h hv hs =
       let last = (p .rate + p .key) / 4 - 1 in
       let shift : p .key / 8 < 8 = omega arith in
-      words-set last
-      (xor-lt 32 (getD s last 0) (bitXor v (2 ^ (p .key / 8)) * 2 ^ 24) (words-at hs last)
+      below-set last
+      (xor-lt 32 (getD s last 0) (bitXor v (2 ^ (p .key / 8)) * 2 ^ 24) (below-at hs last)
       (shl-lt 8 24 (xor-lt 8 v (2 ^ (p .key / 8)) hv (pow-lt shift))))
       hs
 
   pub words-mixed : {s block : List ℕ} → Words s → Bytes block → Words (mixed p s block)
   unfolding outer inner rho1 feistelSwap whitening
   words-mixed hs hb =
-      let o = words-take (p .rate / 4) hs in
-      let i = words-drop (p .rate / 4) hs in
-      let r = words-drop (p .rate / 8) o in
-      words-append
-      (words-xors (words-xors (words-append r (words-xors r (words-take (p .rate / 8) o))) (words-toWords hb))
-      (words-take (p .rate / 4) (words-append i i)))
+      let o = below-take (p .rate / 4) hs in
+      let i = below-drop (p .rate / 4) hs in
+      let r = below-drop (p .rate / 8) o in
+      below-append
+      (below-xors (below-xors (below-append r (below-xors r (below-take (p .rate / 8) o))) (words-toWords hb))
+      (below-take (p .rate / 4) (below-append i i)))
       i
 
   bytes-padded : {block : List ℕ} → Bytes block → Bytes (padded p block)
   unfolding padded
-  bytes-padded hb = bytes-take (p .rate) (bytes-append hb (Bytes.more (lit< tt) (bytes-replicate (p .rate) (lit< tt))))
+  bytes-padded hb = below-take (p .rate) (below-append hb (Below.more (lit< tt) (below-replicate (p .rate) (lit< tt))))
 
 -- Nothing is cut, padded or reduced.
 module _ (p : Params) (h : Sizes p) where
@@ -210,4 +211,4 @@ module _ (p : Params) (h : Sizes p) where
 
     pub initialise-state : Bytes key → Bytes nonce
         → state ((p .rate + p .key) / 8) (toWords nonce ++ toWords key) ≡ toWords nonce ++ toWords key
-    initialise-state bk bn = exact _ initialise-exact (words-append (words-toWords bn) (words-toWords bk))
+    initialise-state bk bn = exact _ initialise-exact (below-append (words-toWords bn) (words-toWords bk))

@@ -12,39 +12,8 @@ use Rattle.sparkle.specs.Words.{addw, rotr, ell}
 use Rattle.sparkle.specs.declared.scalar.Branch.{Branch}
 use Rattle.sparkle.specs.Sparkle.{rcon, quarter, arxBox, constants, boxes, xorXs, xorYs, xors, xorEach, feistel, linear, step, run, state, sparkle, sparkleIn}
 use Rattle.sparkle.proofs.Rotate.{rotr-lt}
-
--- every element is below 2^32
-pub data Words : List ℕ → Type 0 where
-  none : Words []
-  more : {x : ℕ} {w : List ℕ} → x < 2 ^ 32 → Words w → Words (x ∷ w)
-
-pub words-of : (w : List ℕ) → ((i : ℕ) → getD w i 0 < 2 ^ 32) → Words w
-words-of [] h = none
-words-of (x ∷ w) h = more (h zero) (words-of w (λ i. h (suc i)))
-
-pub words-at : {w : List ℕ} → Words w → (i : ℕ) → getD w i 0 < 2 ^ 32
-words-at none i = lit< tt
-words-at (more h hs) zero = h
-words-at (more h hs) (suc i) = words-at hs i
-
-pub words-append : {u v : List ℕ} → Words u → Words v → Words (u ++ v)
-words-append none k = k
-words-append (more h hs) k = more h (words-append hs k)
-
-pub words-take : (n : ℕ) {w : List ℕ} → Words w → Words (take n w)
-words-take zero hs = none
-words-take (suc n) none = none
-words-take (suc n) (more h hs) = more h (words-take n hs)
-
-pub words-drop : (n : ℕ) {w : List ℕ} → Words w → Words (drop n w)
-words-drop zero hs = hs
-words-drop (suc n) none = none
-words-drop (suc n) (more h hs) = words-drop n hs
-
-pub words-set : (i : ℕ) {x : ℕ} {w : List ℕ} → x < 2 ^ 32 → Words w → Words (set w i x)
-words-set i hx none = none
-words-set zero hx (more h hs) = more hx hs
-words-set (suc i) hx (more h hs) = more h (words-set i hx hs)
+use Rattle.sparkle.proofs.Below.{Words, below-at, below-append, below-take, below-drop, below-set, below-xors}
+use Rattle.sparkle.proofs.Below.Below.{none, more}
 
 xor-word : {x y : ℕ} → x < 2 ^ 32 → y < 2 ^ 32 → bitXor x y < 2 ^ 32
 xor-word {x} {y} hx hy = xor-lt 32 x y hx hy
@@ -56,8 +25,9 @@ ell-word {x} hx = xor-word (rotr-lt 16 (lit≤ tt) x hx) (omega arith)
 rcon-word : (i : ℕ) → rcon i < 2 ^ 32
 unfolding rcon
 rcon-word i =
-    let last = more (lit< tt) (more (lit< tt) (more (lit< tt) (more (lit< tt) none))) in
-    words-at (more (lit< tt) (more (lit< tt) (more (lit< tt) (more (lit< tt) last)))) i
+    below-at {k = 32}
+    (more (lit< tt) (more (lit< tt) (more (lit< tt) (more (lit< tt)
+    (more (lit< tt) (more (lit< tt) (more (lit< tt) (more (lit< tt) none)))))))) i
 
 -- both words of a branch are below 2^32
 pub record BranchWords (v : Branch) : Type 0 where
@@ -79,8 +49,8 @@ box-words hc h =
 pub words-constants : (s : ℕ) {w : List ℕ} → Words w → Words (constants s w)
 unfolding constants
 words-constants s h =
-    words-set 3 (xor-word (words-at h 3) (mod-lt s (lit< tt)))
-    (words-set 1 (xor-word (words-at h 1) (rcon-word (s % 8))) h)
+    below-set 3 (xor-word (below-at h 3) (mod-lt s (lit< tt)))
+    (below-set 1 (xor-word (below-at h 1) (rcon-word (s % 8))) h)
 
 pub words-boxes : (i : ℕ) {w : List ℕ} → Words w → Words (boxes i w)
 unfolding boxes
@@ -102,12 +72,6 @@ word-xorYs ha none = ha
 word-xorYs ha (more hx none) = ha
 word-xorYs ha (more hx (more hy h)) = word-xorYs (xor-word ha hy) h
 
-pub words-xors : {u v : List ℕ} → Words u → Words v → Words (xors u v)
-unfolding xors
-words-xors none k = none
-words-xors (more h hs) none = none
-words-xors (more h hs) (more k ks) = more (xor-word h k) (words-xors hs ks)
-
 words-xorEach : {a b : ℕ} {w : List ℕ} → a < 2 ^ 32 → b < 2 ^ 32 → Words w → Words (xorEach a b w)
 unfolding xorEach
 words-xorEach ha hb none = none
@@ -117,13 +81,13 @@ words-xorEach ha hb (more hx (more hy h)) = more (xor-word hx ha) (more (xor-wor
 words-feistel : {l r : List ℕ} → Words l → Words r → Words (feistel l r)
 unfolding feistel
 words-feistel hl hr =
-    words-xorEach (ell-word (word-xorYs (lit< tt) hl)) (ell-word (word-xorXs (lit< tt) hl)) (words-xors hl hr)
+    words-xorEach (ell-word (word-xorYs (lit< tt) hl)) (ell-word (word-xorXs (lit< tt) hl)) (below-xors hl hr)
 
 pub words-linear : (b : ℕ) {w : List ℕ} → Words w → Words (linear b w)
 unfolding linear
 words-linear b h =
-    let m = words-feistel (words-take b h) (words-drop b h) in
-    words-append (words-append (words-drop 2 m) (words-take 2 m)) (words-take b h)
+    let m = words-feistel (below-take b h) (below-drop b h) in
+    below-append (below-append (below-drop 2 m) (below-take 2 m)) (below-take b h)
 
 pub words-step : (b s : ℕ) {w : List ℕ} → Words w → Words (step b s w)
 unfolding step
@@ -162,7 +126,7 @@ pub sparkle-in : (b k : ℕ) (w v : List ℕ) → b + b ≤ length w → Words w
 unfolding sparkle sparkleIn
 sparkle-in b k w v h hs e =
     ap (λ (l : List ℕ). l ++ drop (b + b) w)
-    (e ∙ ap (run b 0 k) (sym (state-of-words b (take (b + b) w) (length-take-le (b + b) w h) (words-take (b + b) hs))))
+    (e ∙ ap (run b 0 k) (sym (state-of-words b (take (b + b) w) (length-take-le (b + b) w h) (below-take (b + b) hs))))
 
 -- the same where the array is the state
 pub sparkle-whole : (b k : ℕ) (w : List ℕ) → length w ≡ b + b → Words w → run b 0 k w ≡ sparkleIn b k w

@@ -3,6 +3,7 @@ pub mod Tab
 pub mod Xor
 pub mod Rotate
 pub mod Lengths
+pub mod Below
 pub mod Bounds
 pub mod Runs
 pub mod Arrays

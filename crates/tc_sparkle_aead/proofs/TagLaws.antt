@@ -17,7 +17,8 @@ use Rattle.sparkle.proofs.Lengths.{length-xors}
 use Rattle.schwaemm.specs.Bytes.{toWords, toBytes}
 use Rattle.schwaemm.specs.Schwaemm.{Params, Sizes, inner, tagOf}
 use Rattle.schwaemm.proofs.Xors.{xors-at, xors-enough}
-use Rattle.schwaemm.proofs.ByteWords.{Bytes, bytes-of, bytes-take, length-toBytes, toBytes-toWords, toBytes-append, toBytes-drop, toBytes-xors}
+use Rattle.sparkle.proofs.Below.{Bytes, below-of, below-take}
+use Rattle.schwaemm.proofs.ByteWords.{length-toBytes, toBytes-toWords, toBytes-append, toBytes-drop, toBytes-xors}
 use Rattle.schwaemm.proofs.States.{stateLength}
 use Rattle.tc_sparkle_aead.specs.Calls.{stateIn}
 use Rattle.tc_sparkle_aead.proofs.VariantLaws.{Small}
@@ -25,7 +26,7 @@ use Rattle.tc_sparkle_aead.proofs.StateLaws.{state-fits}
 
 -- what owning an array of bytes tells
 pub array-bytes : (b : List ℕ) (us : List Val) → shadow (each ℕ (UInt w8 .own) b us) → Bytes b
-array-bytes b us p = bytes-of b (λ i. elem-fits w8 w8 b us i p tt .fits)
+array-bytes b us p = below-of b (λ i. elem-fits w8 w8 b us i p tt .fits)
 
 -- the bytes of the tag, of the state's bytes and the key
 abbrev pub tagBytes : List ℕ → List ℕ → ℕ → ℕ → List ℕ
@@ -61,7 +62,7 @@ tagOf-bytes p h f words key hw hk bytes =
     rw (whole, drop-append-le (p .rate) (toBytes s) rest room, ← xors-enough (p .key) (u ++ rest) k (omega arith), take-at u rest (p .key) hu)
     (sym (rw (
       toBytes-xors (drop (p .rate / 4) s) (toWords k),
-      toBytes-toWords (bytes-take (p .key) bytes) (omega arith),
+      toBytes-toWords (below-take (p .key) bytes) (omega arith),
       ← toBytes-drop (p .rate / 4) s,
       words-of-rate,
     )))

@@ -8,7 +8,7 @@ use borrow.Author.Needs.{needs}
 use Rattle.sparkle.specs.Words.{addw, shlw}
 use Rattle.sparkle.specs.Lanes.{lanes, lanes2}
 use Rattle.sparkle.proofs.LaneLaws.{quarter-sum, quarter-x, last-y}
-use Rattle.sparkle.proofs.Bounds.{words-at}
+use Rattle.sparkle.proofs.Below.{below-at}
 use Rattle.sparkle.proofs.Arrays.{array-words}
 use Rattle.sparkle.proofs.sse2.last4.Statement.{statement}
 use Rattle.sparkle.proofs.sse2.last4.Tie as tie
@@ -32,7 +32,7 @@ returns c =
           (c .before .before .and42 .ensures
           ∙ ap (lanes (λ v. bitAnd v 0x0000ffff))
           (c .before .before .before .xor42 .ensures ∙ ap (lanes2 bitXor y) (c .before .before .before .before .shr42 .ensures ∙ ap (lanes (λ v. v / 2 ^ 16)) sum)))
-          ∙ last-y x y rc (words-at (array-words y _ (s .good .1 .0 .1 .1))),
+          ∙ last-y x y rc (below-at (array-words y _ (s .good .1 .0 .1 .1))),
     )
 
 pub last4-spec : {M : Type 1} → statement M

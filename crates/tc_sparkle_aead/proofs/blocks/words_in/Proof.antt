@@ -5,7 +5,8 @@ use native.Mathlib.Omega.{arith}
 use lib.ListN.{length, take, drop, length-drop}
 use lib.Seq.{length-take-le}
 use Rattle.schwaemm.specs.Bytes.{toWords, toBytes}
-use Rattle.schwaemm.proofs.ByteWords.{bytes-of, bytes-take, bytes-drop, toBytes-toWords}
+use Rattle.sparkle.proofs.Below.{below-of, below-take, below-drop}
+use Rattle.schwaemm.proofs.ByteWords.{toBytes-toWords}
 use Rattle.tc_sparkle_aead.specs.Engine.{zeros}
 use Rattle.tc_sparkle_aead.proofs.Fill.{laid, fill-turn, laid-over, length-zeros}
 use Rattle.tc_sparkle_aead.proofs.WordLaws.{length-eight, eight-at}
@@ -42,7 +43,7 @@ returns c =
     let e = length-take-le 32 b (enough s) in
     let known = c .before .before .shared-slice-known .given in
     ap toBytes (laid-over _ (zeros 8) (c .before .loop .inv .1) (omega (arith, length-eight b (enough s))) (omega (arith, length-zeros 8)))
-    ∙ toBytes-toWords (bytes-take 32 (bytes-drop (s .args .at) (bytes-of (s .args .bytes .now) (λ i. omega (arith, known i))))) (omega arith)
+    ∙ toBytes-toWords (below-take 32 (below-drop (s .args .at) (below-of (s .args .bytes .now) (λ i. omega (arith, known i))))) (omega arith)
 
 pub words-in-spec : {M : Type 1} → statement M
 words-in-spec =
