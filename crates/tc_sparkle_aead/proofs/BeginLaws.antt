@@ -130,8 +130,8 @@ module _ (e : SparkleEngine) where
   begin-variant (Final d) = refl
 
   pub begin-message : (phase : Phase)
-      → messageAt (beginBy phase e .variant) (beginBy phase e .current) (beginBy phase e .pair .key)
-      ≡ messageAt (e .variant) (begun (paramsOf (e .variant)) phase (e .current)) (e .pair .key)
+      → messageAt (beginBy phase e .variant) (beginBy phase e .current) (beginBy phase e .pair)
+      ≡ messageAt (e .variant) (begun (paramsOf (e .variant)) phase (e .current)) (e .pair)
   unfolding atPoint
   begin-message Uninitialized = refl
   begin-message (Init d) = refl

@@ -109,13 +109,13 @@ open-end-by false e n = refl
 
 -- it depends on the message alone
 module _ (e : SparkleEngine) where
-  opened-message : (right : Bool) → openedEnd right (messageAt (e .variant) (e .current) (e .pair .key)) ≡ openedEnd right e
+  opened-message : (right : Bool) → openedEnd right (messageAt (e .variant) (e .current) (e .pair)) ≡ openedEnd right e
   unfolding openTag openLast openBlock currentKey
   opened-message true = refl
   opened-message false = refl
 
   opened-out-message : (right : Bool)
-      → openEndOutBy right (messageAt (e .variant) (e .current) (e .pair .key)) ≡ openEndOutBy right e
+      → openEndOutBy right (messageAt (e .variant) (e .current) (e .pair)) ≡ openEndOutBy right e
   unfolding openLast openBlock
   opened-out-message true = refl
   opened-out-message false = refl
@@ -136,11 +136,11 @@ module _ {e : SparkleEngine} {at : Point} {out : List ℕ} {n : ℕ} {opens : Bo
   bound = heldIn-bound (paramsOf (e .variant)) (e .current .phase) (e .current .held)
 
   -- the engine in which the data begins, as far as an end depends on it
-  message-is : messageAt (e .variant) at (e .pair .key)
-      ≡ messageAt (beginData e .variant) (beginData e .current) (beginData e .pair .key)
+  message-is : messageAt (e .variant) at (e .pair)
+      ≡ messageAt (beginData e .variant) (beginData e .current) (beginData e .pair)
   unfolding beginData
   message-is =
-      ap (λ (x : Point). messageAt (e .variant) x (e .pair .key)) (t .begins) ∙ sym (begin-message e (e .current .phase))
+      ap (λ (x : Point). messageAt (e .variant) x (e .pair)) (t .begins) ∙ sym (begin-message e (e .current .phase))
 
   -- an engine that has ended, by what the end gave
   ended-is : (answer : AeadResult) → answer ≡ Ok n → (first : ℕ)
@@ -171,7 +171,7 @@ module _ {e : SparkleEngine} {at : Point} {out : List ℕ} {n : ℕ} {opens : Bo
 
     pub final-sealed : (answer : AeadResult) → answer ≡ Ok n → (first : ℕ)
         → first ≡ begunSteps (paramsOf (e .variant)) (e .current .phase) → (x : Point) (end : End)
-        → end ≡ sealedEnd (messageAt (e .variant) at (e .pair .key)) → (done : Done)
+        → end ≡ sealedEnd (messageAt (e .variant) at (e .pair)) → (done : Done)
         → done ≡ endedBy (atPoint e x first) (answered answer (end .mac)) Encrypt (end .mac) (end .steps)
         → done ≡ doFinal e out
     unfolding doFinal sealEnd endedBy sealTag currentKey readable
@@ -182,7 +182,7 @@ module _ {e : SparkleEngine} {at : Point} {out : List ℕ} {n : ℕ} {opens : Bo
     pub final-sealed-out : (out₁ : List ℕ)
         → out₁
         ≡ written
-        (sealLast (messageAt (e .variant) at (e .pair .key)) ++ sealTag (messageAt (e .variant) at (e .pair .key))) out
+        (sealLast (messageAt (e .variant) at (e .pair)) ++ sealTag (messageAt (e .variant) at (e .pair))) out
         → out₁ ≡ doFinalOut e out
     unfolding doFinalOut sealLast sealTag currentKey
     final-sealed-out out₁ ed =
@@ -207,8 +207,8 @@ module _ {e : SparkleEngine} {at : Point} {out : List ℕ} {n : ℕ} {opens : Bo
         → first ≡ begunSteps (paramsOf (e .variant)) (e .current .phase) → (x : Point) (end : End)
         → end
         ≡ openedEnd
-        (same (receivedTag (messageAt (e .variant) at (e .pair .key))) (openTag (messageAt (e .variant) at (e .pair .key))))
-        (messageAt (e .variant) at (e .pair .key))
+        (same (receivedTag (messageAt (e .variant) at (e .pair))) (openTag (messageAt (e .variant) at (e .pair))))
+        (messageAt (e .variant) at (e .pair))
         → (done : Done) → done ≡ endedBy (atPoint e x first) (answered answer (end .mac)) Decrypt (end .mac) (end .steps)
         → done ≡ doFinal e out
     unfolding doFinal openEnd receivedTag openTag openLast openBlock currentKey
@@ -225,8 +225,8 @@ module _ {e : SparkleEngine} {at : Point} {out : List ℕ} {n : ℕ} {opens : Bo
         → out₁
         ≡ written
         (openEndOutBy
-        (same (receivedTag (messageAt (e .variant) at (e .pair .key))) (openTag (messageAt (e .variant) at (e .pair .key))))
-        (messageAt (e .variant) at (e .pair .key))) out
+        (same (receivedTag (messageAt (e .variant) at (e .pair))) (openTag (messageAt (e .variant) at (e .pair))))
+        (messageAt (e .variant) at (e .pair))) out
         → out₁ ≡ doFinalOut e out
     unfolding doFinalOut receivedTag openTag openLast openBlock currentKey
     final-opened-out out₁ ed =

@@ -20,6 +20,7 @@ use Rattle.tc_sparkle_aead.specs.declared.aead_init_error.AeadInitResult
 use Rattle.tc_sparkle_aead.specs.declared.aead_init_error.AeadInitResult.the-variants.{Ok as StartOk, Err as StartErr}
 use Rattle.tc_sparkle_aead.specs.declared.variant.SparkleVariant.{SparkleVariant}
 use Rattle.tc_sparkle_aead.specs.declared.engine.Point.{Point}
+use Rattle.tc_sparkle_aead.specs.declared.engine.Pair.{Pair}
 use Rattle.tc_sparkle_aead.specs.declared.engine.Mac.{Mac}
 use Rattle.tc_sparkle_aead.specs.declared.engine.Steps.{Steps}
 use Rattle.tc_sparkle_aead.specs.declared.engine.SparkleEngine.{SparkleEngine}
@@ -266,17 +267,10 @@ lastState p s block plain = ifEmpty block s (mixLast p 2 s plain)
 unfoldable pub lastSteps : Params → List ℕ → ℕ
 lastSteps p block = cond (ltb 0 (length block)) (p .big) 0
 
--- What an end depends on: the variant, the point and the key. An engine with these alone.
-abbrev pub messageAt : SparkleVariant → Point → List ℕ → SparkleEngine
-messageAt v at key =
-    record {
-      variant = v;
-      current = at;
-      initial = noMessage;
-      pair = record { loaded = true; key = key; nonce = zeros 32 };
-      mac = noMac;
-      steps = noSteps;
-    }
+-- What an end depends on: the variant, the point and the loaded pair. An engine with these alone.
+abbrev pub messageAt : SparkleVariant → Point → Pair → SparkleEngine
+messageAt v at pair =
+    record { variant = v; current = at; initial = noMessage; pair = pair; mac = noMac; steps = noSteps }
 
 -- The last bytes of a sealing and its tag, from the engine in Data.
 unfoldable pub sealTag : SparkleEngine → List ℕ

@@ -103,13 +103,12 @@ pub fn do_final(e: SparkleEngine, output: &mut [u8]) -> Done
     };
     let begun = engine::begin_data(variant, at);
     let pair = e.pair;
-    let key = pair.key;
     let first = engine::begin_steps(variant, phase);
     if checks::opening(phase) {
-        let end = engine::open_end(variant, begun, key, output);
+        let end = engine::open_end(variant, begun, pair, output);
         return engine::ended(e, answer, Direction::Decrypt, first, end);
     }
-    let end = engine::seal_end(variant, begun, key, output);
+    let end = engine::seal_end(variant, begun, pair, output);
     engine::ended(e, answer, Direction::Encrypt, first, end)
 }
 

@@ -116,22 +116,6 @@ fn store(variant: SparkleVariant, output: &mut [u8], pos: usize, words: [u32; 8]
     }
 }
 
-// Whether n bytes of a buffer from `at` on are a tag's; all of them are looked at.
-pub(crate) fn same_tag(buffer: [u8; 64], at: usize, tag: [u8; 32], n: usize) -> bool
-    requires { ⌜ (n ≤ 32) × (at + n ≤ 64) ⌝ }
-    ensures { λ r. ⌜ r ≡ same (take n (drop at buffer)) (take n tag) ⌝ }
-{
-    let mut equal = true;
-    let mut i = 0;
-    while i < n {
-        if buffer[at + i] != tag[i] {
-            equal = false;
-        }
-        i += 1;
-    }
-    equal
-}
-
 // Whether the first n bytes of two slices are the same; all of them are looked at.
 pub(crate) fn same_bytes(a: &[u8], b: &[u8], n: usize) -> bool
     requires { ⌜ (n ≤ length (now a)) × (n ≤ length (now b)) ⌝ }

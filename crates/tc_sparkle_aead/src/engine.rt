@@ -483,14 +483,15 @@ fn last_steps(variant: SparkleVariant, n: usize) -> u64
 }
 
 // The end of a sealing: the last bytes and the tag.
-pub(crate) fn seal_end(variant: SparkleVariant, at: Point, key: [u8; 32], output: &mut [u8]) -> End
+pub(crate) fn seal_end(variant: SparkleVariant, at: Point, pair: Pair, output: &mut [u8]) -> End
     requires { ⌜ (heldCount (paramsOf variant) (at .phase) (at .held) ≤ paramsOf variant .rate) × (heldCount (paramsOf variant) (at .phase) (at .held) + paramsOf variant .key ≤ length (now output)) ⌝ }
-    ensures { λ r. ⌜ r ≡ sealedEnd (messageAt variant at key) ⌝ }
-    ensures { λ _. ⌜ now (output .exit) ≡ written (sealLast (messageAt variant at key) ++ sealTag (messageAt variant at key)) (now (output .entry)) ⌝ }
+    ensures { λ r. ⌜ r ≡ sealedEnd (messageAt variant at pair) ⌝ }
+    ensures { λ _. ⌜ now (output .exit) ≡ written (sealLast (messageAt variant at pair) ++ sealTag (messageAt variant at pair)) (now (output .entry)) ⌝ }
 {
     let phase = at.phase;
     let words = at.words;
     let buffer = at.buffer;
+    let key = pair.key;
     let held = held_count(variant, phase, at.held);
     let bytes = blocks::crypt(variant, words, buffer, held);
     let tag = blocks::make_tag(variant, last_words(variant, words, buffer, held), key);
@@ -506,20 +507,21 @@ pub(crate) fn seal_end(variant: SparkleVariant, at: Point, key: [u8; 32], output
 }
 
 // The end of an opening: the last bytes where the received tag is right, else zeros in their place.
-pub(crate) fn open_end(variant: SparkleVariant, at: Point, key: [u8; 32], output: &mut [u8]) -> End
+pub(crate) fn open_end(variant: SparkleVariant, at: Point, pair: Pair, output: &mut [u8]) -> End
     requires { ⌜ (paramsOf variant .key ≤ heldCount (paramsOf variant) (at .phase) (at .held)) × (heldCount (paramsOf variant) (at .phase) (at .held) ≤ paramsOf variant .rate + paramsOf variant .key) × (heldCount (paramsOf variant) (at .phase) (at .held) ≤ length (now output) + paramsOf variant .key) ⌝ }
-    ensures { λ r. ⌜ r ≡ openedEnd (same (receivedTag (messageAt variant at key)) (openTag (messageAt variant at key))) (messageAt variant at key) ⌝ }
-    ensures { λ _. ⌜ now (output .exit) ≡ written (openEndOutBy (same (receivedTag (messageAt variant at key)) (openTag (messageAt variant at key))) (messageAt variant at key)) (now (output .entry)) ⌝ }
+    ensures { λ r. ⌜ r ≡ openedEnd (same (receivedTag (messageAt variant at pair)) (openTag (messageAt variant at pair))) (messageAt variant at pair) ⌝ }
+    ensures { λ _. ⌜ now (output .exit) ≡ written (openEndOutBy (same (receivedTag (messageAt variant at pair)) (openTag (messageAt variant at pair))) (messageAt variant at pair)) (now (output .entry)) ⌝ }
 {
     let phase = at.phase;
     let words = at.words;
     let buffer = at.buffer;
+    let key = pair.key;
     let size = variant.tag_bytes();
     let body = held_count(variant, phase, at.held) - size;
     let plain = blocks::crypt(variant, words, buffer, body);
     let tag = blocks::make_tag(variant, last_words(variant, words, plain, body), key);
     let steps = last_steps(variant, body);
-    if blocks::same_tag(buffer, body, tag, size) {
+    if blocks::same_bytes(&buffer[body..], &tag, size) {
         blocks::put(output, 0, &plain, body);
         return End {
             mac: Mac {

@@ -8,12 +8,12 @@ use Rattle.tc_sparkle_aead.proofs.aead_cipher.do_final.Tie as tie
 -- what is known where the direction is told
 taken : (c : tie.After-opening)
     → Taken
-    (c .before .before .before .before .before .before .before .before .before .before .args .e)
-    (c .before .before .before .before .begin-data .result)
-    (c .before .before .before .before .before .before .before .before .before .before .args .output .now)
-    (c .before .before .before .before .before .enum-told .given .0 .0) (c .opening .result)
+    (c .before .before .before .before .before .before .before .before .before .args .e)
+    (c .before .before .before .begin-data .result)
+    (c .before .before .before .before .before .before .before .before .before .args .output .now)
+    (c .before .before .before .before .enum-told .given .0 .0) (c .opening .result)
 taken c =
-    let begun = c .before .before .before .before in
+    let begun = c .before .before .before in
     let told = begun .before in
     record {
       passed = sym (told .before .before .end-check .ensures) ∙ told .enum-told .given .1;
@@ -37,7 +37,7 @@ returns-2 c =
     let end = c .before .before .before in
     let branch = end .before .before in
     let first = branch .before .before in
-    let told = first .before .before .before .before in
+    let told = first .before .before .before in
     let t = taken (branch .before) in (
       final-opened t (branch .if1 .taken) _ (told .enum-told .given .1) _ (first .begin-steps .ensures) _ _
           (end .open-end .ensures .0) _ (c .ended .ensures),
@@ -52,7 +52,7 @@ returns-3 c =
     let end = c .before .before .before in
     let branch = end .before .before in
     let first = branch .before .before in
-    let told = first .before .before .before .before in
+    let told = first .before .before .before in
     let t = taken (branch .before) in (
       final-sealed t (branch .if1 .left) _ (told .enum-told .given .1) _ (first .begin-steps .ensures) _ _
           (end .seal-end .ensures .0) _ (c .ended2 .ensures),

@@ -1,9 +1,12 @@
 -- `open_end` has the last bytes, the tag and its verdict from its callees, and then writes by the verdict.
-use mathlib.Core.Path.{_≡_, refl}
-use Prim.Native.Nat.{_+_, _-_, _≤_}
+use mathlib.Core.Path.{_≡_, refl, ap, _∙_}
+use mathlib.Core.List.{List}
+use Prim.Native.Nat.{ℕ, _+_, _-_, _≤_}
 use native.Mathlib.Omega.{arith}
 use borrow.Author.Needs.{needs}
-use lib.ListN.{length}
+use lib.ListN.{length, take, drop}
+use lib.Seq.{take-take}
+use Rattle.schwaemm.specs.Bytes.{same}
 use Rattle.tc_sparkle_aead.specs.Engine.{zeros}
 use Rattle.tc_sparkle_aead.specs.Calls.{messageAt}
 use Rattle.tc_sparkle_aead.proofs.VariantLaws.{small}
@@ -17,7 +20,7 @@ words-long s = search needs
 buffer-long : (s : tie.Start) → length (s .args .at .buffer) ≡ 64
 buffer-long s = search needs
 
-key-long : (s : tie.Start) → length (s .args .key) ≡ 32
+key-long : (s : tie.Start) → length (s .args .pair .key) ≡ 32
 key-long s = search needs
 
 -- the held bytes end with a tag, and what is before it fits a block and the output
@@ -25,41 +28,61 @@ fits : (c : tie.After-held-count)
     → (c .before .tag-bytes .result ≤ 32) × (c .before .tag-bytes .result ≤ c .held-count .result)
     × (c .held-count .result ≤ 64)
     × (c .held-count .result
-    ≤ length (c .before .before .before .before .before .args .output .now) + c .before .tag-bytes .result)
+    ≤ length (c .before .before .before .before .before .before .args .output .now) + c .before .tag-bytes .result)
 fits c =
     let sized = c .before in
-    let s = sized .before .before .before .before in
+    let s = sized .before .before .before .before .before in
     omega (arith, c .held-count .ensures, sized .tag-bytes .ensures, small (s .args .variant), s .pre)
 
-same-tag-requires : tie.Need-same-tag-requires
-same-tag-requires c κs = omega (arith, fits (c .before .before .before .before))
+sub-same-bytes : tie.Need-sub-same-bytes
+sub-same-bytes c = omega (arith, fits (c .before .before .before .before))
+
+part-same-bytes-start : tie.Need-part-same-bytes-start
+part-same-bytes-start c = omega (arith, fits (c .before .before .before .before .before))
+
+part-same-bytes-end : tie.Need-part-same-bytes-end
+part-same-bytes-end c =
+    omega (arith, buffer-long (c .before .before .before .before .before .before .before .before .before .before .before))
+
+same-bytes-requires : tie.Need-same-bytes-requires
+same-bytes-requires c κs = omega (arith, fits (c .before .before .before .before .before .before .before))
 
 put-requires : tie.Need-put-requires
-put-requires c κs = omega (arith, fits (c .before .before .before .before .before .before .before .before))
+put-requires c κs = omega (arith, fits (c .before .before .before .before .before .before .before .before .before .before .before))
 
 put-requires-2 : tie.Need-put-requires-2
-put-requires-2 c κs = omega (arith, fits (c .before .before .before .before .before .before .before .before))
+put-requires-2 c κs = omega (arith, fits (c .before .before .before .before .before .before .before .before .before .before .before))
 
 -- what is computed before the verdict's branch
-computed : (c : tie.After-same-tag)
+computed : (c : tie.After-same-bytes)
     → Opening
-    (messageAt (c .before .before .before .before .before .before .before .before .before .before .args .variant)
-    (c .before .before .before .before .before .before .before .before .before .before .args .at)
-    (c .before .before .before .before .before .before .before .before .before .before .args .key))
-    (c .before .before .before .before .before .held-count .result - c .before .before .before .before .before .before .tag-bytes .result)
-    (c .before .before .before .before .crypt .result) (c .before .before .make-tag .result) (c .before .last-steps .result)
-    (c .same-tag .result)
+    (messageAt
+    (c .before .before .before .before .before .before .before .before .before .before .before .before .before .before .args .variant)
+    (c .before .before .before .before .before .before .before .before .before .before .before .before .before .before .args .at)
+    (c .before .before .before .before .before .before .before .before .before .before .before .before .before .before .args .pair))
+    (c .before .before .before .before .before .before .before .before .held-count .result
+    - c .before .before .before .before .before .before .before .before .before .tag-bytes .result)
+    (c .before .before .before .before .before .before .before .crypt .result)
+    (c .before .before .before .before .before .make-tag .result) (c .before .before .before .before .last-steps .result)
+    (c .same-bytes .result)
 computed c =
-    let made = c .before .before in
-    let counted = made .before .before .before in
+    let counted = c .before .before .before .before .before .before .before .before in
+    let made = c .before .before .before .before .before in
     let sized = counted .before in
-    let s = sized .before .before .before .before in
+    let s = sized .before .before .before .before .before in
     let held = counted .held-count .ensures in
     let size = sized .tag-bytes .ensures in
-    opening-is (messageAt (s .args .variant) (s .args .at) (s .args .key)) (words-long s) (buffer-long s) (key-long s) _ _
+    let n = sized .tag-bytes .result in
+    let body = counted .held-count .result - n in
+    let part = take (64 - body) (drop body (s .args .at .buffer)) in
+    let verdict : c .same-bytes .result ≡ same (take n part) (take n (made .make-tag .result)) = c .same-bytes .ensures in
+    opening-is (messageAt (s .args .variant) (s .args .at) (s .args .pair)) (words-long s) (buffer-long s) (key-long s) _ _
     held size (omega (arith, held, size, s .pre)) (omega (arith, held, s .pre)) _ _ _ _ _
     (made .before .before .crypt .ensures) (made .before .last-words .ensures) (made .make-tag .ensures)
-    (c .before .last-steps .ensures) (c .same-tag .ensures)
+    (c .before .before .before .before .last-steps .ensures)
+    (verdict
+    ∙ ap (λ (l : List ℕ). same l (take n (made .make-tag .result)))
+    (take-take n (64 - body) (drop body (s .args .at .buffer)) (omega (arith, fits counted))))
 
 returns : tie.Need-returns
 returns c =
@@ -89,7 +112,11 @@ open-end-spec =
     (λ c κs. search needs)
     (λ c κs. search needs)
     (λ c κs. search needs)
-    same-tag-requires
+    sub-same-bytes
+    part-same-bytes-start
+    part-same-bytes-end
+    (λ c. search needs)
+    same-bytes-requires
     (λ c. search needs)
     put-requires
     (λ c. search needs)

@@ -15,20 +15,20 @@ words-long s = search needs
 buffer-long : (s : tie.Start) → length (s .args .at .buffer) ≡ 64
 buffer-long s = search needs
 
-key-long : (s : tie.Start) → length (s .args .key) ≡ 32
+key-long : (s : tie.Start) → length (s .args .pair .key) ≡ 32
 key-long s = search needs
 
 put-requires : tie.Need-put-requires
 put-requires c κs =
     let counted = c .before .before .before .before .before in
-    let s = counted .before .before .before .before in
+    let s = counted .before .before .before .before .before in
     omega (arith, counted .held-count .ensures, small (s .args .variant), s .pre)
 
 put-requires-2 : tie.Need-put-requires-2
 put-requires-2 c κs =
     let put = c .before .before .before .before .before in
     let counted = put .before .before .before .before .before .before in
-    let s = counted .before .before .before .before in
+    let s = counted .before .before .before .before .before in
     omega (
       arith,
       counted .held-count .ensures,
@@ -44,8 +44,8 @@ returns c =
     let put = tagged .before .before .before .before .before .before in
     let made = put .before .before .before in
     let counted = made .before .before .before in
-    let s = counted .before .before .before .before in
-    let m = messageAt (s .args .variant) (s .args .at) (s .args .key) in
+    let s = counted .before .before .before .before .before in
+    let m = messageAt (s .args .variant) (s .args .at) (s .args .pair) in
     let held = counted .held-count .ensures in (
       sealed m (words-long s) (buffer-long s) (key-long s) _ held _ _ (made .before .last-words .ensures)
           (made .make-tag .ensures) _ (c .last-steps .ensures),
