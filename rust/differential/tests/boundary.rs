@@ -1,8 +1,10 @@
 //! Lists that are malformed and answers that do not fit, by docs/HOST.md: the
-//! codes 21 to 23, their places, and what the lent slices hold afterwards.
+//! codes 21 to 23, their places, and what the lent slices hold afterwards; and
+//! what a whole packet's call leaves in its output.
 
 use differential::{call_list, expected, walks};
 use host::{ANSWER_HEAD, CALL_HEAD, MALFORMED, NO_ROOM, NO_VARIANT, Packet, Ran};
+use replay::calls::{VARIANTS, variant_number};
 use replay::random::Random;
 use replay::recorder::{Contents, Recorder};
 
@@ -332,6 +334,67 @@ fn one_shot_without_a_variant() {
             let done = call(packet, &mut output);
             assert_eq!((done.code, done.first), (NO_VARIANT, 0));
             assert_eq!(output, [LENT; 80]);
+        }
+    }
+}
+
+/// What a packet's call returns and leaves in the output, by each row of the
+/// table in docs/HOST.md but 23's. Of a packet whose tag alone is damaged the
+/// blocks that are written before the end are the message's.
+#[test]
+fn one_shot_outputs() {
+    for variant in VARIANTS {
+        let (rate, tag) = (variant.nonce_bytes(), variant.tag_bytes());
+        let (key, nonce) = (&vec![1; tag][..], &vec![2; rate][..]);
+        let check = |opening, (key, nonce), message: &[u8], room, code, first, start: &[u8]| {
+            let packet = Packet {
+                variant: variant_number(variant),
+                key,
+                nonce,
+                header: &[3; 5],
+                message,
+            };
+            let mut output = vec![LENT; room];
+            let call = if opening { host::open } else { host::seal };
+            let done = call(packet, &mut output);
+            assert_eq!((done.code, done.first), (code, first));
+            assert_eq!(output[..start.len()], *start);
+            assert!(output[start.len()..].iter().all(|byte| *byte == LENT));
+        };
+        for n in [0, 1, rate, rate + 1, 3 * rate, 3 * rate + 5] {
+            let message: Vec<u8> = (0..n).map(|i| 100 + i as u8).collect();
+            let mut sealed = vec![0; n + tag];
+            let packet = Packet {
+                variant: variant_number(variant),
+                key,
+                nonce,
+                header: &[3; 5],
+                message: &message,
+            };
+            host::seal(packet, &mut sealed);
+            let blocks = n.saturating_sub(1) / rate * rate;
+            let last = n - blocks;
+            let pair = (key, nonce);
+            check(false, pair, &message, n + tag + 9, 0, n + tag, &sealed);
+            check(true, pair, &sealed, n + 9, 0, n, &message);
+            for (opening, input) in [(false, &message), (true, &sealed)] {
+                let (short_key, short_nonce) = ((&key[1..], nonce), (key, &nonce[1..]));
+                check(opening, short_key, input, n + tag, 1, tag - 1, &[]);
+                check(opening, short_nonce, input, n + tag, 2, rate - 1, &[]);
+                if blocks > 0 {
+                    check(opening, pair, input, blocks - 1, 4, blocks, &[]);
+                }
+            }
+            let (short, early) = (n + tag - 1, &sealed[..blocks]);
+            check(false, pair, &message, short, 4, last + tag, early);
+            if n > 0 {
+                check(true, pair, &sealed, n - 1, 4, last, &message[..blocks]);
+            }
+            check(true, pair, &sealed[..tag - 1], n, 5, tag, &[]);
+            sealed[n] ^= 1;
+            let mut left = message.clone();
+            left[blocks..].fill(0);
+            check(true, pair, &sealed, n + 9, 6, 0, &left);
         }
     }
 }
