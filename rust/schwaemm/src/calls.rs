@@ -9,13 +9,14 @@ use crate::{Error, Variant, stack};
 pub use host::Direction;
 
 /// What one call of a list answered.
-#[derive(Clone, Debug, PartialEq, Eq)]
+#[derive(Clone, PartialEq, Eq)]
 pub struct Answer {
     /// The bytes that a data call or an end wrote, a tag's bytes, or a query's
     /// length (0 for the other calls); or why the call was refused.
     pub outcome: Result<u64, Error>,
     /// The whole output of a data call or an end as the call left it; for `mac`
-    /// 32 bytes, the tag and zeros behind it; else empty.
+    /// 32 bytes, the tag and zeros behind it, or zeros; else empty. On an
+    /// opening, those of a data call are not verified: see [`Answer::written`].
     pub bytes: Vec<u8>,
     /// Whether a tag can be read after the call.
     pub tag_readable: bool,
@@ -26,6 +27,9 @@ pub struct Answer {
 impl Answer {
     /// The bytes that a data call or an end wrote, or the tag that `mac` read;
     /// else none.
+    ///
+    /// On an opening the bytes of data calls are not verified until the end
+    /// answers ok; where it does not, discard them.
     pub fn written(&self) -> &[u8] {
         let n = self.outcome.unwrap_or(0) as usize;
         self.bytes.get(..n).unwrap_or_default()
@@ -35,6 +39,10 @@ impl Answer {
 /// A list of an engine's calls, which run one after the other on a new engine.
 /// A refused call does not stop the list: the calls behind it run, on the
 /// engine as the refusal left it (docs/01-scope.md).
+///
+/// On an opening the bytes of data calls are not verified until the end answers
+/// ok; where it does not, discard them. [`Message`](crate::Message) does so by
+/// itself.
 ///
 /// ```
 /// use schwaemm::{Calls, Direction, Error, Variant};
@@ -157,6 +165,11 @@ impl Calls {
 
     /// Runs the calls on a new engine. They stay as they are and can run again,
     /// with the same answers.
+    ///
+    /// # Panics
+    ///
+    /// Where the archive does not take the list that was written for it, or does
+    /// not answer it as docs/HOST.md says.
     pub fn run(&self) -> Vec<Answer> {
         let raw = self.run_raw();
         let answers: Vec<Answer> = Answers(&raw).map(|a| answer(&a)).collect();
@@ -184,6 +197,18 @@ fn answer(a: &host::Answer) -> Answer {
         bytes: a.bytes.to_vec(),
         tag_readable: a.readable != 0,
         steps: a.steps,
+    }
+}
+
+impl fmt::Debug for Answer {
+    /// Writes the bytes as their length, never themselves.
+    fn fmt(&self, f: &mut fmt::Formatter<'_>) -> fmt::Result {
+        f.debug_struct("Answer")
+            .field("outcome", &self.outcome)
+            .field("bytes", &self.bytes.len())
+            .field("tag_readable", &self.tag_readable)
+            .field("steps", &self.steps)
+            .finish()
     }
 }
 

@@ -41,7 +41,7 @@ pub enum Error {
     InputTooLong,
     /// 8: no message has been started.
     NotInitialized,
-    /// 9: a header after the message's first bytes.
+    /// 9: a header that is not empty, after a data call.
     AadAfterData,
     /// 10: the message has ended.
     AlreadyFinalized,
@@ -122,9 +122,9 @@ impl fmt::Display for Error {
             Self::AuthenticationFailed => f.write_str("the tag is not the right one"),
             Self::InputTooLong => f.write_str("a length passes 2^64 - 1"),
             Self::NotInitialized => f.write_str("no message has been started"),
-            Self::AadAfterData => f.write_str("a header cannot follow the message's data"),
+            Self::AadAfterData => f.write_str("a header cannot follow a data call"),
             Self::AlreadyFinalized => f.write_str("the message has ended"),
-            Self::NonceReuse => f.write_str("key and nonce are those of the last start"),
+            Self::NonceReuse => f.write_str("key and nonce are those that were loaded last"),
         }
     }
 }

@@ -35,18 +35,25 @@
 //!
 //! The functions for one packet read and write the caller's slices in place.
 //! [`Message`] and [`Calls`] copy what they are given into a list, the key too;
-//! running it makes the answers, with every output, beside the list. For a
-//! message of n bytes that is up to 4n bytes while it runs.
+//! running it makes the answers, with every output, beside the list. A piece of
+//! k bytes of a [`Message`]'s data, with blocks of b bytes, takes 33 + k + (k + b)
+//! bytes of the list, 34 + (k + b) of the answers and k of the result. So a
+//! message of n bytes takes about 4n bytes while it runs, and up to 131 more for
+//! each piece, besides spare room in the list: where it grows, its room at
+//! least doubles. With [`Calls`] the caller says how large an output is; it is
+//! there in the list, in the answers and in what is handed out.
 //!
 //! # What is wiped
 //!
 //! Lists and answers are overwritten with zeros when they are dropped, and
 //! when a list has to move as it grows, by writes that the compiler has to
-//! keep. Where opening fails, what could have been written of the message is
-//! overwritten too. After each call of an archive 8 KiB of the stack below the
-//! caller's are overwritten: an engine is a value there, and its copies hold
-//! key and state. That is more than the calls take (docs/PERFORMANCE.md), and
-//! as much as can be done from outside; nothing is proved of it.
+//! keep. Where [`open`], [`open_into`] or an opening [`Message`] fails, what
+//! could have been written of the message is overwritten too. [`Calls`] hands
+//! out what each call wrote, of an opening that fails too. After each call of an
+//! archive 8 KiB of the stack below the caller's are overwritten: an engine is a
+//! value there, and its copies hold key and state. That is more than the calls
+//! take (docs/PERFORMANCE.md), and as much as can be done from outside; nothing
+//! is proved of it.
 //!
 //! Not wiped: the slices that the caller lends, what is handed out, registers,
 //! and what the system made of any of these. Nothing is claimed of timing

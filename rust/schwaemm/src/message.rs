@@ -63,8 +63,8 @@ impl Message {
         Self { calls, data: 0 }
     }
 
-    /// Adds a piece of the header. A piece that is not empty behind data is
-    /// refused with 9.
+    /// Adds a piece of the header. A piece that is not empty, after a call of
+    /// `data`, even an empty one, is refused with 9.
     pub fn header(&mut self, piece: &[u8]) {
         self.calls.process_aad_bytes(piece);
     }
@@ -83,6 +83,11 @@ impl Message {
     ///
     /// The first refusal. Nothing of the message is handed out then: what the
     /// calls wrote is wiped.
+    ///
+    /// # Panics
+    ///
+    /// Where the archive does not take the list that was written for it, or does
+    /// not answer it as docs/HOST.md says.
     pub fn finish(mut self) -> Result<Finished, Error> {
         let variant = self.calls.variant();
         let tag = variant.tag_bytes();

@@ -44,7 +44,8 @@ fn variants() {
     assert_eq!(Variant::from_number(5), None);
 }
 
-/// The first and an entry in the middle of kat/LWC_AEAD_KAT_128_128.txt.
+/// The first and the third entry of kat/LWC_AEAD_KAT_128_128.txt, of the third
+/// the first four bytes.
 #[test]
 fn known_answers() {
     let bytes: Vec<u8> = (0..16).collect();
@@ -248,6 +249,10 @@ fn a_header_behind_data() {
     sealing.header(&header);
     sealing.data(b"more");
     assert_eq!(sealing.finish(), Err(Error::AadAfterData));
+    let mut sealing = Message::sealing(Variant::Schwaemm256_256, &key, &nonce);
+    sealing.data(b"");
+    sealing.header(&header);
+    assert_eq!(sealing.finish(), Err(Error::AadAfterData));
 }
 
 /// Calls in any order, with every other refusal.
@@ -310,6 +315,10 @@ fn error_texts() {
     let boxed: Box<dyn std::error::Error + Send + Sync> = Box::new(too_short);
     assert!(boxed.source().is_none());
     assert_eq!(too_short.number(), 4);
+    assert_eq!(
+        Error::NonceReuse.to_string(),
+        "key and nonce are those that were loaded last"
+    );
 }
 
 /// What is secret is not shown by `Debug`.
@@ -324,5 +333,22 @@ fn debug_shows_no_bytes() {
     assert_eq!(
         format!("{finished:?}"),
         "Finished { bytes: 21, tag: 16, steps: 20 }"
+    );
+    let mut calls = Calls::new(variant);
+    calls.init(Direction::Sealing, &[0xab; 16], &[2; 16], 16, b"");
+    calls.process_bytes(&[0xab; 17], 16);
+    calls.do_final(17);
+    calls.mac();
+    let text = format!("{calls:?}");
+    assert!(!text.contains("171") && !text.contains("ab"), "{text}");
+    let texts: Vec<String> = calls.run().iter().map(|a| format!("{a:?}")).collect();
+    assert_eq!(
+        texts,
+        [
+            "Answer { outcome: Ok(0), bytes: 0, tag_readable: false, steps: 10 }",
+            "Answer { outcome: Ok(16), bytes: 16, tag_readable: false, steps: 17 }",
+            "Answer { outcome: Ok(17), bytes: 17, tag_readable: true, steps: 27 }",
+            "Answer { outcome: Ok(16), bytes: 32, tag_readable: true, steps: 27 }",
+        ]
     );
 }
