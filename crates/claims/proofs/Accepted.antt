@@ -9,7 +9,7 @@ use lib.Dec.{ltb}
 use borrow.Author.Tests.{ltb-false}
 use lib.ListN.{length, drop, length-append, length-drop, length-take}
 use lib.Seq.{take-at, drop-at}
-use Rattle.schwaemm.specs.Blocks.{ready, after, given, held}
+use Rattle.schwaemm.specs.Blocks.{ready, given, held}
 use Rattle.schwaemm.specs.Schwaemm.{Params, crypt, prepared, sealing, opening as openingBlock, messageBlock, beforeLast, lastBlock, crypted, encrypt, decrypt, tag, seal, body as bodyOf, leading}
 use Rattle.schwaemm.proofs.Cut.{ready-bound, rest-below, length-held}
 use Rattle.schwaemm.proofs.States.{length-prepared, length-crypt}

@@ -1,5 +1,5 @@
--- What is claimed of the engine: every statement in full, each with the sentence of docs/00-demands.md that it renders. The
--- words stand in specs/; the proofs stand in the other files here and are cited.
+-- What is claimed of the engine: every statement in full, each with the sentence of docs/00-demands.md, or of
+-- docs/01-scope.md, that it renders. The words stand in specs/; the proofs stand in the other files here and are cited.
 --
 -- `step e c` is what a call's contract says of the call (specs/Call.antt); `run v calls` is the engine after a list of
 -- calls from a new engine of variant v, refused calls included; `reader v calls` is what the plain reader of document 01,
@@ -20,7 +20,7 @@ use Rattle.tc_sparkle_aead.specs.declared.aead_error.AeadResult.the-variants.{O
 use Rattle.tc_sparkle_aead.specs.declared.engine.SparkleEngine.{SparkleEngine}
 use Rattle.tc_sparkle_aead.specs.Variant.{paramsOf}
 use Rattle.tc_sparkle_aead.specs.Checks.{opening, keep, endCheck}
-use Rattle.tc_sparkle_aead.specs.Engine.{newEngine}
+use Rattle.tc_sparkle_aead.specs.Engine.{noMac, newEngine}
 use Rattle.tc_sparkle_aead.specs.Calls.{readable, macOf, stepsNow}
 use Rattle.claims.specs.Call.{Call, Alike, step, Line, sheet, runFrom, run}
 use Rattle.claims.specs.Call.Outcome.{ok, no}
@@ -30,7 +30,7 @@ use Rattle.claims.specs.Messages.{Each, outputs, headers, datas, HeaderC
 use Rattle.claims.specs.Messages.{Completes, Rejects, RoundTrip}
 use Rattle.claims.specs.Messages.{Betweens, takenHeader, takenData, begunEngine, OpenedUnrefused, Asked, answerOf}
 use Rattle.claims.specs.Messages.{released, Writes, finishedBytes, messageOf, OpenEndExact, Ended, Before, stepsBefore}
-use Rattle.claims.specs.Messages.{stepsAfterInit, Keeps, handed, UnderWay}
+use Rattle.claims.specs.Messages.{stepsAfterInit, Keeps, handed, UnderWay, shownTags}
 use Rattle.claims.specs.Refused.{Refused, OfStart, Unchanging, Numbered, Returned, Wiped, Unchanged, Failed, lent}
 use Rattle.claims.specs.Machine.{Machine, engine, after, counts, Demand2, Demand3}
 use Rattle.claims.specs.Rejected.{notInitialized, fixed, untouched, skipping, inventing, finalizing}
@@ -45,6 +45,7 @@ use Rattle.claims.proofs.Demand2.{open-end-exact, mac-bytes, steps-befo
 use Rattle.claims.proofs.Demand2.{steps-reset, steps-new, steps-refused-start}
 use Rattle.claims.proofs.Demand2.{final-keeps-all, message-bytes, end-bytes, phase-is, held-at-most, held-at-most-64}
 use Rattle.claims.proofs.SoFar.{so-far, finished}
+use Rattle.claims.proofs.Shown.{sheet-shown, start-drops, reset-drops}
 use Rattle.claims.proofs.EngineCounts.{sheet-counted}
 use Rattle.claims.proofs.EngineSeals.{engine-demand-2}
 use Rattle.claims.proofs.Rejected.{notInitialized-fails-2, notInitialized-fails-3, fixed-fails-2, fixed-fails-3}
@@ -55,8 +56,9 @@ use Rattle.claims.proofs.WorkedSheet.{worked-sheet, worked-verdicts}
 
 -- ---- Demand 1
 --
--- For every engine value, every call, every content and every length. That a call returns at all is its contract: every
--- call of the engine has one, total and without `requires`.
+-- For every engine value, every call, every content and every length; 1.3 after every list of calls, and of any engine value
+-- whose buffer has its 64 bytes. That a call returns at all is its contract: every call of the engine has one, total and
+-- without `requires`.
 
 -- 1.1 "A call that comes with arbitrary contents and lengths, in any phase, returns: with its work done or with one of
 -- eleven refusals."
@@ -125,8 +127,8 @@ pub sealing-with-room-is-accepted : (v : SparkleVariant) (before : List Call) (k
     (steps (paramsOf v) (length (initial ++ headers hs)) (length (datas ms)) % 2 ^ 64)
 sealing-with-room-is-accepted = sealed
 
--- The room asked for there and below: a data call's output of 64 bytes more than its input, these under 2^64, and an
--- end's of 96.
+-- Outputs that have the room asked for there and below, whatever was called before: a data call's output that has 64 bytes
+-- more than its input, where the sum is below 2^64, and an end's output of 96 bytes.
 pub ample-outputs-have-room : (e : SparkleEngine) (calls : List Call) → Each Ample calls → Rooms e calls
 ample-outputs-have-room = rooms-ample
 
@@ -215,14 +217,27 @@ pub readable-tag-is-the-specifications : (v : SparkleVariant) (calls : List Call
     (messageOf (paramsOf v) (reader v calls)))
 readable-tag-is-the-specifications = mac-bytes
 
+-- 2.4, when one is shown, as document 01 says of mac, "after a successful end, until the next init or reset": on every line
+-- of every sheet a tag can be read exactly where `shownTags` says so, which goes by the calls alone.
+pub tag-readable-on-every-line : (v : SparkleVariant) (calls : List Call)
+    → map (λ (l : Line). l .readable) (sheet v calls) ≡ shownTags (paramsOf v) newReader false calls
+tag-readable-on-every-line = sheet-shown
+
+-- A start, refused or not, and a reset drop it, whatever the engine.
+pub start-drops-the-tag : (e : SparkleEngine) (d : Direction) (key nonce : List ℕ) (size : ℕ) (header : List ℕ)
+    → macOf (step e (Call.start d key nonce size header) .engine) ≡ noMac
+start-drops-the-tag = start-drops
+
+pub reset-drops-the-tag : (e : SparkleEngine) → macOf (step e Call.reset .engine) ≡ noMac
+reset-drops-the-tag = reset-drops
+
 -- 2.5 "Proved: the step count is the specification's." On every line of every sheet it is that of document 01's formula,
 -- which `counts` works out from the calls alone.
 pub steps-of-every-line : (v : SparkleVariant) (calls : List Call)
     → map (λ (l : Line). l .steps) (sheet v calls) ≡ counts (paramsOf v) newReader 0 calls
 steps-of-every-line = sheet-counted
 
--- 2.5, by the phase. Before the end: big for the start, and for header and data what
--- has run.
+-- 2.5, by the phase. Before the end: big for the start, and for header and data what has run.
 pub steps-are-the-formula : (v : SparkleVariant) (calls : List Call) → Before (reader v calls .phase)
     → stepsNow (run v calls)
     ≡ stepsBefore (paramsOf v) (reader v calls .phase) (reader v calls .header) (reader v calls .body) % 2 ^ 64
@@ -290,8 +305,8 @@ pub end-writes-the-rest : (v : SparkleVariant) (calls : List Call) (out : List �
     (step (run v calls) (Call.end out) .buffer) n
 end-writes-the-rest = end-bytes
 
--- The answers of every call but mac, after every list of calls, are those of document 01's tables over what the reader
--- keeps; its phase is the engine's.
+-- Document 01, "A number comes back where its line holds": the answers of every call but mac, after every list of calls, are
+-- those of its tables over what the reader keeps; the reader's phase is the engine's.
 pub answers-are-the-tables : (v : SparkleVariant) (calls : List Call) (c : Call) → Asked c
     → step (run v calls) c .outcome ≡ answerOf (paramsOf v) (reader v calls) c
 answers-are-the-tables = answers
@@ -300,7 +315,7 @@ pub phase-is-the-readers : (v : SparkleVariant) (calls : List Call)
     → run v calls .current .phase ≡ reader v calls .phase
 phase-is-the-readers = phase-is
 
--- No more is held than a block, on an opening a block and a tag; never more than 64 bytes.
+-- Document 01, "So at most 64 bytes are held": no more than a block, on an opening a block and a tag.
 pub held-at-most-a-block : (v : SparkleVariant) (calls : List Call)
     → run v calls .current .held ≤ keep (paramsOf v) (reader v calls .phase) + paramsOf v .rate
 held-at-most-a-block = held-at-most

@@ -34,7 +34,7 @@ use Rattle.tc_sparkle_aead.proofs.CheckLaws.{startCheck-size, startCheck-openin
 use Rattle.tc_sparkle_aead.proofs.VariantLaws.{sizes, Small, small}
 use Rattle.schwaemm.specs.Blocks.{ready}
 use Rattle.schwaemm.specs.Schwaemm.{Params}
-use Rattle.schwaemm.proofs.RoundTrip.{same-of-equal, equal-of-same}
+use Rattle.schwaemm.proofs.RoundTrip.{same-of-equal, equal-of-same, both-true}
 use lib.Dec.{eqb·suc-zero}
 use borrow.Author.Tests.{lt-ltb, le-ltb, ne-eqb}
 use native.Mathlib.Decide.{ℕ-discrete, decLt}
@@ -233,10 +233,6 @@ module _ (e : SparkleEngine) where
   refused-comes-back c r (end-finalized q) = unfold endCheck in rw q
   refused-comes-back c r (nonce-reuse k n s loaded key nonce) =
       rw (startCheck-sealing (paramsOf (e .variant)) Encrypt _ _ _ _ k n s refl, loaded, same-of-equal _ _ key, same-of-equal _ _ nonce)
-
-both-true : (c d : Bool) → cond c d false ≡ true → (c ≡ true) × (d ≡ true)
-both-true true d q = (refl, q)
-both-true false d q = absurd (let z : _≡_ {A = ℕ} 0 1 = cc in omega arith)
 
 repeats-true : (p : Params) (pair : Pair) (key nonce : List ℕ) → repeats p pair key nonce ≡ true
     → (pair .loaded ≡ true) × (take (p .key) (pair .key) ≡ key) × (take (p .rate) (pair .nonce) ≡ nonce)

@@ -8,8 +8,7 @@ use mathlib.Core.List.{List, [], _∷_}
 use Prim.Native.Nat.{ℕ, _+_, _%_, _^_, _≤_, _<_}
 use native.Mathlib.Omega.{arith}
 use lib.ListN.{length}
-use Rattle.schwaemm.specs.Blocks.{held}
-use Rattle.schwaemm.specs.Schwaemm.{Params, tag, verified, steps}
+use Rattle.schwaemm.specs.Schwaemm.{Params, tag, verified}
 use Rattle.schwaemm.proofs.Cut.{length-held, rest-below}
 use Rattle.tc_sparkle_aead.specs.declared.variant.SparkleVariant.{SparkleVariant}
 use Rattle.tc_sparkle_aead.specs.declared.phase.Direction.{Direction}
@@ -28,16 +27,16 @@ use Rattle.tc_sparkle_aead.specs.Engine.{noMac, noMessage, noSteps, repeats, re
 use Rattle.tc_sparkle_aead.specs.Calls.{reset as resetEngine}
 use Rattle.tc_sparkle_aead.specs.Calls.{readable, macOf, stepsNow, finalPoint, refused, initBy, init, aadBy, processAadBytes, dataBy, processBytes, finalBy, doFinal}
 use Rattle.tc_sparkle_aead.proofs.VariantLaws.{sizes, small, keep-bound}
-use Rattle.claims.specs.Call.{Call, step, runFrom, run, Outcome, outcome, startOutcome}
+use Rattle.claims.specs.Call.{Call, step, runFrom, run, Outcome, startOutcome}
 use Rattle.claims.specs.Reader.{heldOf, read, reader}
-use Rattle.claims.specs.Messages.{released, Writes, Each, endOutcome, answerOf, messageOf, Ended, SealEnd, OpenEnd}
+use Rattle.claims.specs.Messages.{released, Writes, Each, endOutcome, answerOf, messageOf, Ended}
 use Rattle.claims.specs.Messages.{finishedBytes, OpenEndExact, Before, stepsBefore, stepsAfterInit, Keeps}
 use Rattle.claims.proofs.Points.{blockPoint}
 use Rattle.claims.proofs.Kept.{Standing, Sealed, openedMac, headCount, dataCount, headPoint, dataPoint, pointIn}
 use Rattle.claims.proofs.Kept.{initialCount, phase-agrees}
 use Rattle.claims.proofs.Follows.{kept, follows-run, aad-some}
 use Rattle.claims.proofs.Answers.{answers}
-use Rattle.claims.proofs.Written.{end-ended, message-writes-next, seal-end, open-end}
+use Rattle.claims.proofs.Written.{SealEnd, OpenEnd, end-ended, message-writes-next, seal-end, open-end}
 
 module _ (v : SparkleVariant) (calls : List Call) where
   -- An accepted data call writes the specification's next bytes.

@@ -1,6 +1,7 @@
 -- Demand 2, the bytes: a message without refusal, however its data is cut, is written as the specification gives it, and
 -- so are the bytes of every list of calls. With the answers and the steps the engine meets demand 2.
 use mathlib.Core.Path.{_≡_, refl, sym, ap, ap₂, _∙_}
+use mathlib.Core.Bool.{cond}
 use mathlib.Core.List.{List, [], _∷_, _++_, append-assoc, append-nil}
 use Prim.Native.Nat.{ℕ}
 use native.Mathlib.Omega.{arith}
@@ -14,6 +15,7 @@ use Rattle.tc_sparkle_aead.specs.declared.engine.SparkleEngine.{SparkleEngine}
 use Rattle.tc_sparkle_aead.specs.Variant.{paramsOf}
 use Rattle.tc_sparkle_aead.specs.Checks.{dataCheck}
 use Rattle.tc_sparkle_aead.specs.Engine.{newEngine}
+use Rattle.tc_sparkle_aead.specs.Calls.{macOf}
 use Rattle.claims.specs.Call.{Call, outcome, step, line, run, runFrom}
 use Rattle.claims.specs.Call.Outcome.{ok}
 use Rattle.claims.specs.Reader.{Reader, heldOf, readMessage, read, readFrom, reader}
@@ -23,12 +25,13 @@ use Rattle.claims.specs.Machine.{engine, linesOf, sheetOf, bytesOf, Piec
 use Rattle.claims.specs.Machine.{after, handedOf, Demand2}
 use Rattle.claims.specs.Machine.AllOk.{none, more}
 use Rattle.claims.proofs.Kept.{Follows}
-use Rattle.claims.proofs.Follows.{follows-step}
+use Rattle.claims.proofs.Follows.{follows-step, follows-run}
 use Rattle.claims.proofs.Written.{outcome-ok}
 use Rattle.claims.proofs.Whole.{startedReader, begun-follows, sealed-taken, opened-taken}
 use Rattle.claims.proofs.SoFar.{so-far, finished}
 use Rattle.claims.proofs.Meets.{answered}
 use Rattle.claims.proofs.EngineMeets.{linked, engine-answered}
+use Rattle.claims.proofs.Shown.{engine-shown}
 use Rattle.claims.proofs.EngineCounts.{engine-counted}
 
 bytes-outputs : (e : SparkleEngine) (calls : List Call) → bytesOf engine e calls ≡ outputs e calls
@@ -154,6 +157,20 @@ engine-completed v calls out n q =
     ∙ finished v calls out n
     (ap (λ (e : SparkleEngine). step e (Call.end out) .outcome) (sym (after-is (newEngine v) calls)) ∙ q)
 
+variant-is : (v : SparkleVariant) (calls : List Call) → after engine (newEngine v) calls .variant ≡ v
+unfolding run
+variant-is v calls =
+    ap (λ (e : SparkleEngine). e .variant) (after-is (newEngine v) calls)
+    ∙ ap (λ (e : SparkleEngine). e .variant) (follows-run v calls .same-engine)
+
+engine-mac-counts : (v : SparkleVariant) (before : List Call)
+    → engine .step (after engine (engine .new v) before) Call.tag .line .outcome
+    ≡ ok (cond (engine .step (after engine (engine .new v) before) Call.tag .line .readable) (paramsOf v .key) 0)
+unfolding step line
+engine-mac-counts v before =
+    ap (λ (w : SparkleVariant). ok (cond (macOf (after engine (newEngine v) before) .readable) (paramsOf w .key) 0))
+    (variant-is v before)
+
 -- The engine meets demand 2.
 pub engine-demand-2 : Demand2 engine
 engine-demand-2 =
@@ -163,5 +180,7 @@ engine-demand-2 =
       opens = engine-opens;
       so-far = engine-so-far;
       completed = engine-completed;
+      shown = engine-shown;
+      mac-counts = engine-mac-counts;
       counted = engine-counted;
     }

@@ -10,7 +10,7 @@ use borrow.Author.Tests.{ne-eqb}
 use lib.ListN.{length, length-append}
 use Rattle.schwaemm.specs.Bytes.{same}
 use Rattle.schwaemm.specs.Blocks.{held}
-use Rattle.schwaemm.specs.Schwaemm.{Params, Sizes, crypt, prepared, sealing, opening as openingBlock, beforeLast, lastBlock, message, tagOf, decrypt, tag, body as bodyOf, received, verified, leading, steps}
+use Rattle.schwaemm.specs.Schwaemm.{Params, Sizes, crypt, prepared, sealing, opening as openingBlock, beforeLast, lastBlock, tagOf, decrypt, tag, body as bodyOf, received, verified, leading, steps}
 use Rattle.schwaemm.proofs.RoundTrip.{tag-of-opened}
 use Rattle.tc_sparkle_aead.specs.declared.variant.SparkleVariant.{SparkleVariant}
 use Rattle.tc_sparkle_aead.specs.declared.phase.Direction.{Direction}

@@ -16,6 +16,7 @@
 -- Rejected: the refutations of the engines that the demands reject.
 -- Meets: answers and demand 3 of the engine as a machine, from the same invariant.
 -- EngineMeets: demand 3, and 6 after every list of calls.
+-- Shown: whether a tag can be read, on every line.
 -- EngineCounts: the steps of every line.
 -- EngineSeals: the engine as a machine meets demand 2.
 -- WorkedSheet: the sheet that document 01 works by hand.
@@ -37,6 +38,7 @@ pub mod Demand3
 pub mod Rejected
 pub mod Meets
 pub mod EngineMeets
+pub mod Shown
 pub mod EngineCounts
 pub mod EngineSeals
 pub mod WorkedSheet

@@ -27,6 +27,7 @@ use Rattle.tc_sparkle_aead.specs.Checks.{opening, keep, heldIn, then, phaseChec
 use Rattle.tc_sparkle_aead.specs.Engine.{noMac, updateOutputLen, outputLen}
 use Rattle.tc_sparkle_aead.specs.Calls.{aadBy, processAadBytes, readable, macOf, stepsNow}
 use Rattle.tc_sparkle_aead.proofs.VariantLaws.{sizes, small, keep-bound}
+use Rattle.tc_sparkle_aead.proofs.FinalLaws.{heldIn-bound}
 use Rattle.tc_sparkle_aead.proofs.CheckLaws.{updateLen-fits, totalLen-opening, totalLen-sealing, startCheck-opening, startCheck-sealing}
 use Rattle.claims.specs.Call.{Call, step, runFrom, run, Outcome, outcome, startOutcome}
 use Rattle.claims.specs.Reader.{Reader, heldOf, headerPhase, repeated, aadPhase, readHeader, readMessage, read}
@@ -181,14 +182,6 @@ takes-check Takes.takes-init = refl
 takes-check Takes.takes-aad = refl
 takes-check Takes.takes-data = refl
 
--- at most a block and what is kept is held
-held-bound : (p : Params) (phase : Phase) (held : ℕ) → heldIn p phase held ≤ keep p phase + p .rate
-held-bound p Uninitialized held = omega arith
-held-bound p (Init d) held = omega arith
-held-bound p (Aad d) held = omega arith
-held-bound p (Data d) held = omega arith
-held-bound p (Final d) held = omega arith
-
 room-enough : (a n : ℕ) → n ≤ a → room a n ≡ Ok n
 room-enough a n h = rw (le-ltb a n h)
 
@@ -220,7 +213,7 @@ update-answers : (v : SparkleVariant) (phase : Phase) (held k : ℕ) → k + 64 
 update-answers v phase held k fits =
     let p = paramsOf v in
     let h = heldIn p phase held in
-    let few : h ≤ 64 = omega (arith, held-bound p phase held, keep-bound p phase, small v .rate, small v .key) in (
+    let few : h ≤ 64 = omega (arith, heldIn-bound p phase held, keep-bound p phase, small v .rate, small v .key) in (
       ready (p .rate) (keep p phase) (h + k) * p .rate,
       updateLen-fits p phase held k (omega arith),
       omega (arith, ready-bound (p .rate) (keep p phase) (h + k)),
@@ -232,7 +225,7 @@ total-answers v phase held = by (opening phase) refl
   where
     few : heldIn (paramsOf v) phase held ≤ 64
     few =
-        omega (arith, held-bound (paramsOf v) phase held, keep-bound (paramsOf v) phase, small v .rate, small v .key)
+        omega (arith, heldIn-bound (paramsOf v) phase held, keep-bound (paramsOf v) phase, small v .rate, small v .key)
 
     by : (b : Bool) → opening phase ≡ b → (n : ℕ) × (totalLen (paramsOf v) phase held 0 ≡ Ok n) × (n ≤ 96)
     by true o =

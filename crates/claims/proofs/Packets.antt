@@ -2,8 +2,7 @@
 -- the body's last block and the received tag. A sealing's is the case without a tag.
 use mathlib.Core.Path.{_≡_, refl, sym, ap, ap₂, _∙_}
 use mathlib.Core.List.{List, [], _∷_}
-use Prim.Native.Nat.{ℕ, zero, suc, _+_, _-_, _*_, _≤_, _<_}
-use native.Mathlib.Nat.{zero-add, suc-add}
+use Prim.Native.Nat.{ℕ, _+_, _-_, _*_, _≤_, _<_}
 use native.Mathlib.Omega.{arith}
 use borrow.Author.Tests.{lt-ltb}
 use lib.ListN.{length, take, drop}
@@ -11,7 +10,7 @@ use lib.Seq.{length-take-le, drop-drop, drop-nil, take-nil}
 use Rattle.schwaemm.specs.Bytes.{ifEmpty}
 use Rattle.schwaemm.specs.Blocks.{ready, after, given, held}
 use Rattle.schwaemm.specs.Schwaemm.{Params, mixLast, leading, messageBlock, beforeLast, lastBlock, message, body, received, stepsOf}
-use Rattle.schwaemm.proofs.Cut.{ready-before, rest-above, after-take, given-take, length-held}
+use Rattle.schwaemm.proofs.Cut.{ready-before, rest-above, after-take, given-take, length-held, drop-take}
 use Rattle.schwaemm.proofs.RoundTrip.{length-lastBlock, leading-bound}
 use Rattle.schwaemm.proofs.Steps.{steps-some}
 use Rattle.tc_sparkle_aead.specs.Calls.{lastState, lastSteps}
@@ -50,12 +49,6 @@ module _ (p : Params) where
       (sym (steps-some p (length (x ∷ c)) (omega arith)))
 
 -- ---- A packet of at least a tag's bytes
-
--- n elements dropped from n + k leave k of those that follow
-drop-take : (n k : ℕ) (d : List ℕ) → drop n (take (n + k) d) ≡ take k (drop n d)
-drop-take zero k d = ap (λ (j : ℕ). take j d) (zero-add k)
-drop-take (suc n) k [] = ap (λ (j : ℕ). drop (suc n) (take j [])) (suc-add n k) ∙ sym (take-nil k)
-drop-take (suc n) k (x ∷ d) = ap (λ (j : ℕ). drop (suc n) (take j (x ∷ d))) (suc-add n k) ∙ drop-take n k d
 
 module _ (p : Params) (packet : List ℕ) (enough : p .key ≤ length packet) where
   pub length-body : length (body p packet) ≡ length packet - p .key

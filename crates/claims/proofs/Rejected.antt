@@ -32,7 +32,7 @@ use Rattle.claims.specs.Reader.{Reader, newReader, heldOf, repeated, rea
 use Rattle.claims.specs.Reader.Verdict.{Yes, No}
 use Rattle.claims.specs.Messages.{endOutcome, answerOf}
 use Rattle.claims.specs.Refused.{lent}
-use Rattle.claims.specs.Machine.{Machine, engine, after, sheetOf, bytesOf, counts, Demand2, Demand3}
+use Rattle.claims.specs.Machine.{Machine, after, sheetOf, bytesOf, counts, Demand2, Demand3}
 use Rattle.claims.specs.Machine.AllOk.{none, more}
 use Rattle.claims.specs.Rejected.{notInitialized, fixed, untouched, accepted, skipStep, skipping, inventing, finalizing}
 

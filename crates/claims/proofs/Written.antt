@@ -1,7 +1,7 @@
 -- What each call of a list writes and answers, on an engine that follows the reader.
 use mathlib.Core.Path.{_≡_, refl, sym, ap, ap₂, subst, _∙_}
 use mathlib.Core.Bool.{Bool, true, false, cond}
-use mathlib.Core.List.{List, _++_}
+use mathlib.Core.List.{List, [], _∷_, _++_}
 use Prim.Native.Nat.{ℕ, _-_, _%_, _^_, _≤_}
 use native.Mathlib.Omega.{arith}
 use lib.ListN.{length, drop, length-replicate}
@@ -26,7 +26,7 @@ use Rattle.tc_sparkle_aead.proofs.VariantLaws.{sizes}
 use Rattle.schwaemm.proofs.RoundTrip.{length-decrypt}
 use Rattle.claims.specs.Call.{Call, Left, step, Outcome, outcome}
 use Rattle.claims.specs.Reader.{Reader, heldOf, inPhase, readMessage, read}
-use Rattle.claims.specs.Messages.{released, Writes, messageOf, SealEnd, OpenEnd, Ended}
+use Rattle.claims.specs.Messages.{released, Writes, messageOf, Ended}
 use Rattle.claims.proofs.Packets.{length-body}
 use Rattle.claims.proofs.Kept.{Follows, Fits, Standing, engineOf, openedMac}
 use Rattle.claims.proofs.Follows.{Takes, kept, inData, takes-enough, begun-data, takes-loaded, opening-verified}
@@ -34,6 +34,19 @@ use Rattle.claims.proofs.Follows.{seal-engine, open-engine, data-answer
 use Rattle.claims.proofs.Accepted.{data-good, end-good, data-takes, end-takes, EndPassed, released-data, writes}
 use Rattle.claims.proofs.Accepted.{message-writes, seal-bytes, seal-length, open-bytes, open-length, last-length}
 use Rattle.claims.proofs.Accepted.{is-open, end-count, takes-opening}
+
+-- What an end past its checks answers and writes: a sealing's, and an opening's, by whether the packet is verified.
+pub record SealEnd (v : SparkleVariant) (r : Reader) (out : List ℕ) (n : ℕ) (left : Left) : Type 0 where
+  pub outcome-is : left .outcome ≡ Outcome.ok n
+  pub bytes-are : Writes (released (paramsOf v) r) (seal (paramsOf v) (r .key) (r .nonce) (r .header) (r .body)) out
+      (left .buffer) n
+
+pub record OpenEnd (v : SparkleVariant) (r : Reader) (out : List ℕ) (n : ℕ) (good : Bool) (left : Left) : Type 0 where
+  pub outcome-is : left .outcome ≡ cond good (Outcome.ok n) (Outcome.no (6 ∷ []))
+  pub good-bytes : good ≡ true
+      → Writes (released (paramsOf v) r) (decrypt (paramsOf v) (r .key) (r .nonce) (r .header)
+      (bodyOf (paramsOf v) (r .body))) out (left .buffer) n
+  pub bad-bytes : good ≡ false → left .buffer ≡ zeros n ++ drop n out
 
 pub outcome-ok : (k : AeadResult) (n : ℕ) → outcome k ≡ Outcome.ok n → k ≡ Ok n
 outcome-ok (Ok m) n e = let z : m ≡ n = cc in ap Ok z

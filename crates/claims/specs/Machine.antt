@@ -2,6 +2,7 @@
 -- for are those of the plain reader, of which no machine knows.
 use mathlib.Core.Path.{_≡_}
 use mathlib.Core.Logic.{_↔_}
+use mathlib.Core.Bool.{false, cond}
 use mathlib.Core.List.{List, [], _∷_, _++_, map}
 use Prim.Native.Nat.{ℕ, _+_, _-_, _*_, _%_, _^_}
 use lib.ListN.{length, take}
@@ -19,7 +20,7 @@ use Rattle.tc_sparkle_aead.specs.Engine.{newEngine}
 use Rattle.claims.specs.Call.{Call, Alike, step, Line, line}
 use Rattle.claims.specs.Call.Outcome.{ok}
 use Rattle.claims.specs.Reader.{Reader, newReader, read, verdicts, reader}
-use Rattle.claims.specs.Messages.{countOf, answerOf, handedBy, UnderWay, released, finishedBytes}
+use Rattle.claims.specs.Messages.{countOf, answerOf, handedBy, UnderWay, released, finishedBytes, shownTags}
 
 -- ---- Machines
 
@@ -154,6 +155,12 @@ pub record Demand2 (m : Machine) : Type 0 where
   pub completed : (v : SparkleVariant) (calls : List Call) (out : List ℕ) (n : ℕ)
       → m .step (after m (m .new v) calls) (Call.end out) .line .outcome ≡ ok n
       → handedOf m (m .new v) [] (calls ++ (Call.end out ∷ [])) ≡ finishedBytes (paramsOf v) (reader v calls)
+  -- on every line a tag can be read where the calls before say so, and mac counts it
+  pub shown : (v : SparkleVariant) (calls : List Call)
+      → map (λ (l : Line). l .readable) (sheetOf m v calls) ≡ shownTags (paramsOf v) newReader false calls
+  pub mac-counts : (v : SparkleVariant) (before : List Call)
+      → m .step (after m (m .new v) before) Call.tag .line .outcome
+      ≡ ok (cond (m .step (after m (m .new v) before) Call.tag .line .readable) (paramsOf v .key) 0)
   -- the steps of every line are the formula's
   pub counted : (v : SparkleVariant) (calls : List Call)
       → map (λ (l : Line). l .steps) (sheetOf m v calls) ≡ counts (paramsOf v) newReader 0 calls

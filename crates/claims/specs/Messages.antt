@@ -1,4 +1,4 @@
--- What the claims of demands 1 and 2 say about lists of calls, in words of their own.
+-- What the claims of demand 2 say about lists of calls. The words of demand 1 are those of Refused.antt.
 use mathlib.Core.Path.{_≡_}
 use mathlib.Core.Logic.{_↔_}
 use mathlib.Core.Bool.{Bool, true, false, cond}
@@ -20,7 +20,7 @@ use Rattle.tc_sparkle_aead.specs.Checks.{opening, keep, updateLen, totalLen, aa
 use Rattle.tc_sparkle_aead.specs.Engine.{zeros, noMac}
 use Rattle.tc_sparkle_aead.specs.Calls.{plainOf, readable, macOf, stepsNow}
 use Rattle.claims.specs.Call.{Call, Outcome, outcome, startOutcome, Left, step, runFrom, run}
-use Rattle.claims.specs.Reader.{Reader, heldOf, repeated}
+use Rattle.claims.specs.Reader.{Reader, heldOf, repeated, read}
 
 -- ---- Lists of calls
 
@@ -116,8 +116,8 @@ abbrev pub Rooms : SparkleEngine → List Call → Type 0
 Rooms e [] = Unit {0}
 Rooms e (c ∷ calls) = RoomFor e c × Rooms (step e c .engine) calls
 
--- Ample outputs have room, whatever the engine: at most 64 bytes are held, and a tag has at most 32. The query answers a
--- length only for a sum under 2^64; a lent slice is shorter than that, so with one for output the first part is enough.
+-- Outputs that have room whatever the engine holds: at most 64 bytes are held, and a tag has at most 32. The second part
+-- follows from the first for every output that is a slice, since a slice has fewer than 2^64 bytes.
 abbrev pub Ample : Call → Type 0
 Ample (Call.start d key nonce size h) = Unit {0}
 Ample (Call.header input) = Unit {0}
@@ -235,7 +235,8 @@ endOutcome (Err x) opens right = outcome (Err x)
 endOutcome (Ok n) true right = openOutcome right n
 endOutcome (Ok n) false right = Outcome.ok n
 
--- The outcome that document 01's tables give to a call, over what the reader keeps; mac is not refused.
+-- The outcome that document 01's tables give to a call, over what the reader keeps. Of mac nothing is asked here: its
+-- count goes by whether a tag can be read.
 unfoldable pub answerOf : Params → Reader → Call → Outcome
 answerOf p r (Call.start d key nonce size h) =
     startOutcome (startCheck p d (length key) (length nonce) size (repeated r key nonce))
@@ -298,23 +299,35 @@ finishedBytes p r =
 unfoldable pub messageOf : Params → Reader → List ℕ
 messageOf p r = cond (opening (r .phase)) (decrypt p (r .key) (r .nonce) (r .header) (bodyOf p (r .body))) (r .body)
 
--- What an end past its checks answers and writes: a sealing's, and an opening's, by whether the packet is verified.
-pub record SealEnd (v : SparkleVariant) (r : Reader) (out : List ℕ) (n : ℕ) (left : Left) : Type 0 where
-  pub outcome-is : left .outcome ≡ Outcome.ok n
-  pub bytes-are : Writes (released (paramsOf v) r) (seal (paramsOf v) (r .key) (r .nonce) (r .header) (r .body)) out
-      (left .buffer) n
-
-pub record OpenEnd (v : SparkleVariant) (r : Reader) (out : List ℕ) (n : ℕ) (good : Bool) (left : Left) : Type 0 where
-  pub outcome-is : left .outcome ≡ cond good (Outcome.ok n) (Outcome.no (6 ∷ []))
-  pub good-bytes : good ≡ true
-      → Writes (released (paramsOf v) r) (decrypt (paramsOf v) (r .key) (r .nonce) (r .header)
-      (bodyOf (paramsOf v) (r .body))) out (left .buffer) n
-  pub bad-bytes : good ≡ false → left .buffer ≡ zeros n ++ drop n out
-
 -- An opening's end past its checks answers its count exactly when the packet is verified, and 6 exactly when it is not.
 pub record OpenEndExact (v : SparkleVariant) (r : Reader) (n : ℕ) (o : Outcome) : Type 0 where
   pub accepted : (o ≡ Outcome.ok n) ↔ (verified (paramsOf v) (r .key) (r .nonce) (r .header) (r .body) ≡ true)
   pub refused : (o ≡ Outcome.no (6 ∷ [])) ↔ (verified (paramsOf v) (r .key) (r .nonce) (r .header) (r .body) ≡ false)
+
+-- Whether a tag can be read after a call, from what the reader kept before it. An end that is taken makes it readable,
+-- unless an opening's packet is not verified; a start and a reset drop it; no other call changes it.
+abbrev pub shownByEnd : AeadResult → (opens right before : Bool) → Bool
+shownByEnd (Err x) opens right before = before
+shownByEnd (Ok n) true right before = right
+shownByEnd (Ok n) false right before = true
+
+unfoldable pub shownAfter : Params → Reader → Bool → Call → Bool
+shownAfter p r before (Call.start d key nonce size h) = false
+shownAfter p r before (Call.header input) = before
+shownAfter p r before (Call.message input out) = before
+shownAfter p r before (Call.end out) =
+    shownByEnd (endCheck p (r .phase) (heldOf p r) (length out)) (opening (r .phase))
+    (verified p (r .key) (r .nonce) (r .header) (r .body)) before
+shownAfter p r before Call.reset = false
+shownAfter p r before Call.tag = before
+shownAfter p r before (Call.update n) = before
+shownAfter p r before (Call.output n) = before
+
+-- The same after each call of a list.
+unfoldable pub shownTags : Params → Reader → Bool → List Call → List Bool
+shownTags p r before [] = []
+shownTags p r before (c ∷ calls) =
+    let now = shownAfter p r before c in now ∷ shownTags p (read p r c .reader) now calls
 
 -- The tag and the steps of an end past its checks: a sealing's data is its message, an opening's what its packet
 -- decrypts to.

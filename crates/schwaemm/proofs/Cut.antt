@@ -50,7 +50,7 @@ module _ (rate keep : ℕ) where
         ∙ add-comm _ q
 
 -- n elements dropped from n + k leave k of those that follow
-drop-take : (n k : ℕ) (d : List ℕ) → drop n (take (n + k) d) ≡ take k (drop n d)
+pub drop-take : (n k : ℕ) (d : List ℕ) → drop n (take (n + k) d) ≡ take k (drop n d)
 drop-take zero k d = ap (λ (j : ℕ). take j d) (zero-add k)
 drop-take (suc n) k [] = ap (λ (j : ℕ). drop (suc n) (take j [])) (suc-add n k) ∙ sym (take-nil k)
 drop-take (suc n) k (x ∷ d) = ap (λ (j : ℕ). drop (suc n) (take j (x ∷ d))) (suc-add n k) ∙ drop-take n k d

@@ -279,7 +279,7 @@ same-self (a ∷ u) = rw (eq-eqb a a refl) (same-self u)
 pub same-of-equal : (u v : List ℕ) → u ≡ v → same u v ≡ true
 same-of-equal u v e = rw e (same-self v)
 
-both-true : (c d : Bool) → cond c d false ≡ true → (c ≡ true) × (d ≡ true)
+pub both-true : (c d : Bool) → cond c d false ≡ true → (c ≡ true) × (d ≡ true)
 both-true true d e = (refl, e)
 both-true false d e = (e, absurd (let z : _≡_ {A = ℕ} 0 1 = cc in omega arith))
 

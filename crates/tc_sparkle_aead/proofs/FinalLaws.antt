@@ -64,7 +64,7 @@ whole-passed h key n m = by (ltb h key) refl
     by true e passed = never-passed _ m passed
     by false e passed = ltb-false h key e
 
-heldIn-bound : (p : Params) (phase : Phase) (held : ℕ) → heldIn p phase held ≤ keep p phase + p .rate
+pub heldIn-bound : (p : Params) (phase : Phase) (held : ℕ) → heldIn p phase held ≤ keep p phase + p .rate
 heldIn-bound p Uninitialized held = omega arith
 heldIn-bound p (Init d) held = omega arith
 heldIn-bound p (Aad d) held = omega arith

@@ -8,7 +8,6 @@ use Prim.Native.Nat.{ℕ}
 use native.Mathlib.Omega.{arith}
 use types.Run.{OneOf}
 use denote.Enum.Declared.{tagOf}
-use Rattle.tc_sparkle_aead.specs.declared.phase.Direction.{Direction}
 use Rattle.tc_sparkle_aead.specs.declared.phase.Direction.the-variants.{Encrypt, Decrypt}
 use Rattle.tc_sparkle_aead.specs.declared.phase.Phase.{Phase}
 use Rattle.tc_sparkle_aead.specs.declared.phase.Phase.the-variants.{Uninitialized, Init, Aad, Data, Final}

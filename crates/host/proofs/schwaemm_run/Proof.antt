@@ -5,15 +5,12 @@ use borrow.Author.Needs.{needs}
 use Rattle.host.proofs.schwaemm_run.Statement.{statement}
 use Rattle.host.proofs.schwaemm_run.Tie as tie
 
--- src/lib.rt:23:9
 run-list-requires : tie.Need-run-list-requires
 run-list-requires c κs = search needs
 
--- src/lib.rt:17:1
 same-length : tie.Need-same-length
 same-length c = search needs
 
--- src/lib.rt:17:1
 returns : tie.Need-returns
 returns c =
     let done = c .before .before .run-list in

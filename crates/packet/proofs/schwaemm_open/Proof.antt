@@ -5,15 +5,12 @@ use borrow.Author.Needs.{needs}
 use Rattle.packet.proofs.schwaemm_open.Statement.{statement}
 use Rattle.packet.proofs.schwaemm_open.Tie as tie
 
--- src/lib.rt:54:9
 packet-requires : tie.Need-packet-requires
 packet-requires c κs = search needs
 
--- src/lib.rt:40:1
 same-length : tie.Need-same-length
 same-length c = search needs
 
--- src/lib.rt:40:1
 returns : tie.Need-returns
 returns c =
     let done = c .before .before .packet in

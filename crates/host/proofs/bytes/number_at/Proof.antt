@@ -4,23 +4,18 @@ use borrow.Author.Needs.{needs}
 use Rattle.host.proofs.bytes.number_at.Statement.{statement}
 use Rattle.host.proofs.bytes.number_at.Tie as tie
 
--- src/bytes.rt:32:10
 word-at-requires : tie.Need-word-at-requires
 word-at-requires c κs = search needs
 
--- src/bytes.rt:32:45
 add-word-at : tie.Need-add-word-at
 add-word-at c = search needs
 
--- src/bytes.rt:32:30
 word-at-requires-2 : tie.Need-word-at-requires-2
 word-at-requires-2 c κs = search needs
 
--- src/bytes.rt:32:5
 long-requires : tie.Need-long-requires
 long-requires c κs = search needs
 
--- src/bytes.rt:28:1
 returns : tie.Need-returns
 unfolding numberAt
 returns c = cc

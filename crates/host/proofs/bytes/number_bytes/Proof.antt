@@ -4,39 +4,30 @@ use borrow.Author.Needs.{needs}
 use Rattle.host.proofs.bytes.number_bytes.Statement.{statement}
 use Rattle.host.proofs.bytes.number_bytes.Tie as tie
 
--- src/bytes.rt:47:9
 low-byte-requires : tie.Need-low-byte-requires
 low-byte-requires c κs = search needs
 
--- src/bytes.rt:48:9
 low-byte-requires-2 : tie.Need-low-byte-requires-2
 low-byte-requires-2 c κs = search needs
 
--- src/bytes.rt:49:9
 low-byte-requires-3 : tie.Need-low-byte-requires-3
 low-byte-requires-3 c κs = search needs
 
--- src/bytes.rt:50:9
 low-byte-requires-4 : tie.Need-low-byte-requires-4
 low-byte-requires-4 c κs = search needs
 
--- src/bytes.rt:51:9
 low-byte-requires-5 : tie.Need-low-byte-requires-5
 low-byte-requires-5 c κs = search needs
 
--- src/bytes.rt:52:9
 low-byte-requires-6 : tie.Need-low-byte-requires-6
 low-byte-requires-6 c κs = search needs
 
--- src/bytes.rt:53:9
 low-byte-requires-7 : tie.Need-low-byte-requires-7
 low-byte-requires-7 c κs = search needs
 
--- src/bytes.rt:54:9
 low-byte-requires-8 : tie.Need-low-byte-requires-8
 low-byte-requires-8 c κs = search needs
 
--- src/bytes.rt:43:1
 returns : tie.Need-returns
 unfolding number
 returns c = cc

@@ -4,23 +4,18 @@ use borrow.Author.Needs.{needs}
 use Rattle.host.proofs.bytes.put_number.Statement.{statement}
 use Rattle.host.proofs.bytes.put_number.Tie as tie
 
--- src/bytes.rt:75:17
 number-bytes-requires : tie.Need-number-bytes-requires
 number-bytes-requires c κs = search needs
 
--- src/bytes.rt:76:18
 slice-aggregate-put : tie.Need-slice-aggregate-put
 slice-aggregate-put c = search needs
 
--- src/bytes.rt:76:5
 put-requires : tie.Need-put-requires
 put-requires c κs = search needs
 
--- src/bytes.rt:71:1
 same-length : tie.Need-same-length
 same-length c = search needs
 
--- src/bytes.rt:71:1
 returns : tie.Need-returns
 returns c =
     number-written _ (c .before .before .before .before .before .before .before .args .out .now) (c .before .before .before .before .before .before .before .args .at) (c .before .before .before .before .before .number-bytes .result) (c .before .before .before .before .before .before .before .args .n) (c .before .before .put .ensures) (c .before .before .before .before .before .number-bytes .ensures)

@@ -4,39 +4,30 @@ use borrow.Author.Needs.{needs}
 use Rattle.host.proofs.bytes.word_at.Statement.{statement}
 use Rattle.host.proofs.bytes.word_at.Tie as tie
 
--- src/bytes.rt:24:10
 shared-slice-read-word : tie.Need-shared-slice-read-word
 shared-slice-read-word c = search needs
 
--- src/bytes.rt:24:27
 add-word : tie.Need-add-word
 add-word c = search needs
 
--- src/bytes.rt:24:21
 shared-slice-read-word-2 : tie.Need-shared-slice-read-word-2
 shared-slice-read-word-2 c = search needs
 
--- src/bytes.rt:24:42
 add-word-2 : tie.Need-add-word-2
 add-word-2 c = search needs
 
--- src/bytes.rt:24:36
 shared-slice-read-word-3 : tie.Need-shared-slice-read-word-3
 shared-slice-read-word-3 c = search needs
 
--- src/bytes.rt:24:57
 add-word-3 : tie.Need-add-word-3
 add-word-3 c = search needs
 
--- src/bytes.rt:24:51
 shared-slice-read-word-4 : tie.Need-shared-slice-read-word-4
 shared-slice-read-word-4 c = search needs
 
--- src/bytes.rt:24:5
 word-requires : tie.Need-word-requires
 word-requires c κs = search needs
 
--- src/bytes.rt:20:1
 returns : tie.Need-returns
 unfolding wordAt
 returns c = cc

@@ -13,63 +13,48 @@ use borrow.Author.Needs.{needs}
 use Rattle.host.proofs.call.do_final.Statement.{statement}
 use Rattle.host.proofs.call.do_final.Tie as tie
 
--- src/call.rt:173:13
 add-b : tie.Need-add-b
 add-b c = search needs
 
--- src/call.rt:174:13
 add-c : tie.Need-add-c
 add-c c = search needs
 
--- src/call.rt:175:15
 add-end : tie.Need-add-end
 add-end c = search needs
 
--- src/call.rt:176:25
 sub-put : tie.Need-sub-put
 sub-put c = search needs
 
--- src/call.rt:176:25
 part-put-start : tie.Need-part-put-start
 part-put-start c = search needs
 
--- src/call.rt:176:25
 part-put-end : tie.Need-part-put-end
 part-put-end c = search needs
 
--- src/call.rt:176:5
 put-requires : tie.Need-put-requires
 put-requires c κs = search needs
 
--- src/call.rt:177:38
 sub-do-final : tie.Need-sub-do-final
 sub-do-final c = search needs
 
--- src/call.rt:177:38
 part-do-final-start : tie.Need-part-do-final-start
 part-do-final-start c = search needs
 
--- src/call.rt:177:38
 part-do-final-end : tie.Need-part-do-final-end
 part-do-final-end c = search needs
 
--- src/call.rt:177:9
 do-final-requires : tie.Need-do-final-requires
 do-final-requires c κs = search needs
 
--- src/call.rt:180:19
 reply-of-requires : tie.Need-reply-of-requires
 reply-of-requires c κs = search needs
 
--- src/call.rt:180:5
 put-head-requires : tie.Need-put-head-requires
 put-head-requires c κs = search needs
 
--- src/call.rt:168:1
 same-length : tie.Need-same-length
 same-length c = search needs
 
--- src/call.rt:168:1
 returns : tie.Need-returns
 unfolding step shown shownCount
 returns c =

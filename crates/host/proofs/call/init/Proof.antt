@@ -10,67 +10,51 @@ use borrow.Author.Needs.{needs}
 use Rattle.host.proofs.call.init.Statement.{statement}
 use Rattle.host.proofs.call.init.Tie as tie
 
--- src/call.rt:129:13
 add-b : tie.Need-add-b
 add-b c = search needs
 
--- src/call.rt:130:13
 add-c : tie.Need-add-c
 add-c c = search needs
 
--- src/call.rt:131:37
 sub-init : tie.Need-sub-init
 sub-init c = search needs
 
--- src/call.rt:131:37
 part-init-start : tie.Need-part-init-start
 part-init-start c = search needs
 
--- src/call.rt:131:37
 part-init-end : tie.Need-part-init-end
 part-init-end c = search needs
 
--- src/call.rt:131:50
 sub-init-2 : tie.Need-sub-init-2
 sub-init-2 c = search needs
 
--- src/call.rt:131:50
 part-init-start-2 : tie.Need-part-init-start-2
 part-init-start-2 c = search needs
 
--- src/call.rt:131:50
 part-init-end-2 : tie.Need-part-init-end-2
 part-init-end-2 c = search needs
 
--- src/call.rt:131:73
 sub-init-3 : tie.Need-sub-init-3
 sub-init-3 c = search needs
 
--- src/call.rt:131:73
 part-init-start-3 : tie.Need-part-init-start-3
 part-init-start-3 c = search needs
 
--- src/call.rt:131:73
 part-init-end-3 : tie.Need-part-init-end-3
 part-init-end-3 c = search needs
 
--- src/call.rt:131:9
 init-requires : tie.Need-init-requires
 init-requires c κs = search needs
 
--- src/call.rt:134:19
 start-reply-of-requires : tie.Need-start-reply-of-requires
 start-reply-of-requires c κs = search needs
 
--- src/call.rt:134:5
 put-head-requires : tie.Need-put-head-requires
 put-head-requires c κs = search needs
 
--- src/call.rt:123:1
 same-length : tie.Need-same-length
 same-length c = search needs
 
--- src/call.rt:123:1
 returns : tie.Need-returns
 unfolding step shown shownCount
 returns c =

@@ -12,31 +12,24 @@ use borrow.Author.Needs.{needs}
 use Rattle.host.proofs.call.mac.Statement.{statement}
 use Rattle.host.proofs.call.mac.Tie as tie
 
--- src/call.rt:217:9
 mac-requires : tie.Need-mac-requires
 mac-requires c κs = search needs
 
--- src/call.rt:219:5
 put-tag-requires : tie.Need-put-tag-requires
 put-tag-requires c κs = search needs
 
--- src/call.rt:220:25
 tag-len-requires : tie.Need-tag-len-requires
 tag-len-requires c κs = search needs
 
--- src/call.rt:220:19
 count-requires : tie.Need-count-requires
 count-requires c κs = search needs
 
--- src/call.rt:220:5
 put-head-requires : tie.Need-put-head-requires
 put-head-requires c κs = search needs
 
--- src/call.rt:212:1
 same-length : tie.Need-same-length
 same-length c = search needs
 
--- src/call.rt:212:1
 returns : tie.Need-returns
 unfolding step shown shownCount
 returns c =

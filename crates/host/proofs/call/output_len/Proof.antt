@@ -10,23 +10,18 @@ use borrow.Author.Needs.{needs}
 use Rattle.host.proofs.call.output_len.Statement.{statement}
 use Rattle.host.proofs.call.output_len.Tie as tie
 
--- src/call.rt:226:35
 output-len-requires : tie.Need-output-len-requires
 output-len-requires c κs = search needs
 
--- src/call.rt:226:19
 reply-of-requires : tie.Need-reply-of-requires
 reply-of-requires c κs = search needs
 
--- src/call.rt:226:5
 put-head-requires : tie.Need-put-head-requires
 put-head-requires c κs = search needs
 
--- src/call.rt:221:1
 same-length : tie.Need-same-length
 same-length c = search needs
 
--- src/call.rt:221:1
 returns : tie.Need-returns
 unfolding step shown shownCount
 returns c =

@@ -11,35 +11,27 @@ use borrow.Author.Needs.{needs}
 use Rattle.host.proofs.call.process_aad_bytes.Statement.{statement}
 use Rattle.host.proofs.call.process_aad_bytes.Tie as tie
 
--- src/call.rt:144:47
 sub-process-aad-bytes : tie.Need-sub-process-aad-bytes
 sub-process-aad-bytes c = search needs
 
--- src/call.rt:144:47
 part-process-aad-bytes-start : tie.Need-part-process-aad-bytes-start
 part-process-aad-bytes-start c = search needs
 
--- src/call.rt:144:47
 part-process-aad-bytes-end : tie.Need-part-process-aad-bytes-end
 part-process-aad-bytes-end c = search needs
 
--- src/call.rt:144:9
 process-aad-bytes-requires : tie.Need-process-aad-bytes-requires
 process-aad-bytes-requires c κs = search needs
 
--- src/call.rt:147:19
 reply-of-requires : tie.Need-reply-of-requires
 reply-of-requires c κs = search needs
 
--- src/call.rt:147:5
 put-head-requires : tie.Need-put-head-requires
 put-head-requires c κs = search needs
 
--- src/call.rt:138:1
 same-length : tie.Need-same-length
 same-length c = search needs
 
--- src/call.rt:138:1
 returns : tie.Need-returns
 unfolding step shown shownCount
 returns c =

@@ -13,77 +13,59 @@ use borrow.Author.Needs.{needs}
 use Rattle.host.proofs.call.process_bytes.Statement.{statement}
 use Rattle.host.proofs.call.process_bytes.Tie as tie
 
--- src/call.rt:157:13
 add-b : tie.Need-add-b
 add-b c = search needs
 
--- src/call.rt:158:13
 add-c : tie.Need-add-c
 add-c c = search needs
 
--- src/call.rt:159:15
 add-end : tie.Need-add-end
 add-end c = search needs
 
--- src/call.rt:160:25
 sub-put : tie.Need-sub-put
 sub-put c = search needs
 
--- src/call.rt:160:25
 part-put-start : tie.Need-part-put-start
 part-put-start c = search needs
 
--- src/call.rt:160:25
 part-put-end : tie.Need-part-put-end
 part-put-end c = search needs
 
--- src/call.rt:160:5
 put-requires : tie.Need-put-requires
 put-requires c κs = search needs
 
--- src/call.rt:161:43
 sub-process-bytes : tie.Need-sub-process-bytes
 sub-process-bytes c = search needs
 
--- src/call.rt:161:43
 part-process-bytes-start : tie.Need-part-process-bytes-start
 part-process-bytes-start c = search needs
 
--- src/call.rt:161:43
 part-process-bytes-end : tie.Need-part-process-bytes-end
 part-process-bytes-end c = search needs
 
--- src/call.rt:161:56
 sub-process-bytes-2 : tie.Need-sub-process-bytes-2
 sub-process-bytes-2 c = search needs
 
--- src/call.rt:161:56
 part-process-bytes-start-2 : tie.Need-part-process-bytes-start-2
 part-process-bytes-start-2 c = search needs
 
--- src/call.rt:161:56
 part-process-bytes-end-2 : tie.Need-part-process-bytes-end-2
 part-process-bytes-end-2 c = search needs
 
--- src/call.rt:161:9
 process-bytes-requires : tie.Need-process-bytes-requires
 process-bytes-requires c κs = search needs
 
--- src/call.rt:164:19
 reply-of-requires : tie.Need-reply-of-requires
 reply-of-requires c κs = search needs
 
--- src/call.rt:164:5
 put-head-requires : tie.Need-put-head-requires
 put-head-requires c κs =
     let a = c .before .before .before .before .before .before .before .before .before .before .before .before .before .before .before .before .before .before .args in
     third-room (a .h) (a .runs .now) (a .out .now) (c .before .before .before .before .before .before .before .before .before .before .put .last .0) (c .before .before .before .before .before .before .before .before .before .before .before .before .before .before .before .before .before .before .pre .0) (c .before .before .before .before .before .before .before .before .before .before .before .before .before .before .before .before .before .before .pre .1) (c .before .before .before .before .before .before .before .before .before .before .put .ensures) (c .before .before .before .before .before .process-bytes .last .1 .1 .0)
 
--- src/call.rt:151:1
 same-length : tie.Need-same-length
 same-length c = search needs
 
--- src/call.rt:151:1
 returns : tie.Need-returns
 unfolding step shown shownCount
 returns c =

@@ -8,43 +8,33 @@ use borrow.Author.Needs.{needs}
 use Rattle.host.proofs.call.put_head.Statement.{statement}
 use Rattle.host.proofs.call.put_head.Tie as tie
 
--- src/call.rt:115:28
 readable-requires : tie.Need-readable-requires
 readable-requires c κs = search needs
 
--- src/call.rt:116:24
 slice-aggregate-put : tie.Need-slice-aggregate-put
 slice-aggregate-put c = search needs
 
--- src/call.rt:116:5
 put-requires : tie.Need-put-requires
 put-requires c κs = search needs
 
--- src/call.rt:117:5
 put-number-requires : tie.Need-put-number-requires
 put-number-requires c κs = search needs
 
--- src/call.rt:118:5
 put-number-requires-2 : tie.Need-put-number-requires-2
 put-number-requires-2 c κs = search needs
 
--- src/call.rt:119:32
 steps-requires : tie.Need-steps-requires
 steps-requires c κs = search needs
 
--- src/call.rt:119:5
 put-number-requires-3 : tie.Need-put-number-requires-3
 put-number-requires-3 c κs = search needs
 
--- src/call.rt:120:5
 put-number-requires-4 : tie.Need-put-number-requires-4
 put-number-requires-4 c κs = search needs
 
--- src/call.rt:111:1
 same-length : tie.Need-same-length
 same-length c = search needs
 
--- src/call.rt:111:1
 returns : tie.Need-returns
 returns c =
     let s = c .before .before .before .before .before .before .before .before .before .before .before .before .before .before .before .before .before .before .before .before .before .before .before .before in

@@ -9,19 +9,15 @@ use borrow.Author.Needs.{needs}
 use Rattle.host.proofs.call.put_tag.Statement.{statement}
 use Rattle.host.proofs.call.put_tag.Tie as tie
 
--- src/call.rt:209:25
 slice-aggregate-put : tie.Need-slice-aggregate-put
 slice-aggregate-put c = search needs
 
--- src/call.rt:209:5
 put-requires : tie.Need-put-requires
 put-requires c κs = search needs
 
--- src/call.rt:205:1
 same-length : tie.Need-same-length
 same-length c = search needs
 
--- src/call.rt:205:1
 returns : tie.Need-returns
 returns c =
     let a = c .before .before .before .before .before .before .args in

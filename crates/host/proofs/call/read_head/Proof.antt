@@ -4,27 +4,21 @@ use borrow.Author.Needs.{needs}
 use Rattle.host.proofs.call.read_head.Statement.{statement}
 use Rattle.host.proofs.call.read_head.Tie as tie
 
--- src/call.rt:39:15
 shared-slice-read-t3 : tie.Need-shared-slice-read-t3
 shared-slice-read-t3 c = search needs
 
--- src/call.rt:40:17
 number-at-requires : tie.Need-number-at-requires
 number-at-requires c κs = search needs
 
--- src/call.rt:41:16
 number-at-requires-2 : tie.Need-number-at-requires-2
 number-at-requires-2 c κs = search needs
 
--- src/call.rt:42:17
 number-at-requires-3 : tie.Need-number-at-requires-3
 number-at-requires-3 c κs = search needs
 
--- src/call.rt:43:16
 number-at-requires-4 : tie.Need-number-at-requires-4
 number-at-requires-4 c κs = search needs
 
--- src/call.rt:34:1
 returns : tie.Need-returns
 unfolding headOf
 returns c = cc

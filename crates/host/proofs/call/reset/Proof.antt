@@ -8,23 +8,18 @@ use borrow.Author.Needs.{needs}
 use Rattle.host.proofs.call.reset.Statement.{statement}
 use Rattle.host.proofs.call.reset.Tie as tie
 
--- src/call.rt:189:9
 reset-requires : tie.Need-reset-requires
 reset-requires c κs = search needs
 
--- src/call.rt:190:19
 count-requires : tie.Need-count-requires
 count-requires c κs = search needs
 
--- src/call.rt:190:5
 put-head-requires : tie.Need-put-head-requires
 put-head-requires c κs = search needs
 
--- src/call.rt:184:1
 same-length : tie.Need-same-length
 same-length c = search needs
 
--- src/call.rt:184:1
 returns : tie.Need-returns
 unfolding step shown shownCount
 returns c =

@@ -10,23 +10,18 @@ use borrow.Author.Needs.{needs}
 use Rattle.host.proofs.call.update_output_len.Statement.{statement}
 use Rattle.host.proofs.call.update_output_len.Tie as tie
 
--- src/call.rt:214:25
 update-output-len-requires : tie.Need-update-output-len-requires
 update-output-len-requires c κs = search needs
 
--- src/call.rt:214:9
 reply-of-requires : tie.Need-reply-of-requires
 reply-of-requires c κs = search needs
 
--- src/call.rt:212:5
 put-head-requires : tie.Need-put-head-requires
 put-head-requires c κs = search needs
 
--- src/call.rt:207:1
 same-length : tie.Need-same-length
 same-length c = search needs
 
--- src/call.rt:207:1
 returns : tie.Need-returns
 unfolding step shown shownCount
 returns c =

@@ -10,7 +10,6 @@ use borrow.Author.Needs.{needs}
 use Rattle.host.proofs.run.run_list.Statement.{statement}
 use Rattle.host.proofs.run.run_list.Tie as tie
 
--- src/run.rt:70:9
 abbrev stopOf : ℕ → Ran → Stop
 stopOf n r = record { code = r .code; place = n - r .left }
 
@@ -18,31 +17,24 @@ returns : tie.Need-returns
 returns c =
     let a = c .before .before .before .args in list-empty (a .list .now) (a .answers .now) (c .if1 .taken)
 
--- src/run.rt:72:13
 shared-slice-read-v : tie.Need-shared-slice-read-v
 shared-slice-read-v c = search needs
 
--- src/run.rt:73:8
 is-variant-requires : tie.Need-is-variant-requires
 is-variant-requires c κs = search needs
 
--- src/run.rt:74:31
 variant-requires : tie.Need-variant-requires
 variant-requires c κs = search needs
 
--- src/run.rt:74:19
 new-requires : tie.Need-new-requires
 new-requires c κs = search needs
 
--- src/run.rt:74:9
 run-calls-requires : tie.Need-run-calls-requires
 run-calls-requires c κs = search needs
 
--- src/run.rt:65:1
 same-length : tie.Need-same-length
 same-length c = search needs
 
--- src/run.rt:65:1
 returns-2 : tie.Need-returns-2
 returns-2 c =
     let a = c .before .before .before .before .before .before .before .before .before .before .before .before .args in
@@ -52,7 +44,6 @@ returns-2 c =
       c .before .before .run-calls .ensures .1 ∙ ap (λ (r : Ran). written (r .answers) (a .answers .now)) same,
     )
 
--- src/run.rt:65:1
 returns-3 : tie.Need-returns-3
 returns-3 c =
     let a = c .before .before .before .before .before .before .args in list-refused (a .list .now) (a .answers .now) (sym (c .before .is-variant .ensures) ∙ c .if2 .left)

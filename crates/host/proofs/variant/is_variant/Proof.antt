@@ -6,12 +6,10 @@ use Rattle.host.specs.Variant.{isVariant}
 use Rattle.host.proofs.variant.is_variant.Statement.{statement}
 use Rattle.host.proofs.variant.is_variant.Tie as tie
 
--- src/variant.rt:7:1
 returns : tie.Need-returns
 unfolding isVariant
 returns c = rw (lt-ltb (c .before .args .n) 1 (omega arith)) refl
 
--- src/variant.rt:7:1
 returns-2 : tie.Need-returns-2
 unfolding isVariant
 returns-2 c = rw (le-ltb (c .before .args .n) 1 (omega arith)) refl

@@ -8,15 +8,12 @@ use borrow.Author.Needs.{needs}
 use Rattle.packet.proofs.packet.data.Statement.{statement}
 use Rattle.packet.proofs.packet.data.Tie as tie
 
--- src/packet.rt:39:9
 process-bytes-requires : tie.Need-process-bytes-requires
 process-bytes-requires c κs = search needs
 
--- src/packet.rt:43:24
 enum-known-r : tie.Need-enum-known-r
 enum-known-r c = search needs
 
--- src/packet.rt:43:30
 end-requires : tie.Need-end-requires
 end-requires c κs =
     let a = c .before .before .before .before .before .before .before .before .before .before .before .args in
@@ -25,19 +22,15 @@ end-requires c κs =
     let size = c .before .before .before .before .before .before .out .given in
     omega (arith, bound, size)
 
--- src/packet.rt:44:25
 enum-known-r-2 : tie.Need-enum-known-r-2
 enum-known-r-2 c = search needs
 
--- src/packet.rt:44:31
 reply-of-requires : tie.Need-reply-of-requires
 reply-of-requires c κs = search needs
 
--- src/packet.rt:35:1
 same-length : tie.Need-same-length
 same-length c = search needs
 
--- src/packet.rt:35:1
 returns : tie.Need-returns
 returns c =
     let a = c .before .before .before .before .before .before .before .before .before .before .before .before .before .before .args in
@@ -48,11 +41,9 @@ returns c =
       c .before .before .end .ensures .1 ∙ ap (λ (p : Packed). p .out) whole,
     )
 
--- src/packet.rt:35:1
 same-length-2 : tie.Need-same-length-2
 same-length-2 c = search needs
 
--- src/packet.rt:35:1
 returns-2 : tie.Need-returns-2
 returns-2 c =
     let a = c .before .before .before .before .before .before .before .before .before .before .before .args in

@@ -7,27 +7,21 @@ use borrow.Author.Needs.{needs}
 use Rattle.packet.proofs.packet.end.Statement.{statement}
 use Rattle.packet.proofs.packet.end.Tie as tie
 
--- src/packet.rt:22:38
 sub-do-final : tie.Need-sub-do-final
 sub-do-final c = search needs
 
--- src/packet.rt:22:38
 part-do-final-start : tie.Need-part-do-final-start
 part-do-final-start c = search needs
 
--- src/packet.rt:22:38
 part-do-final-end : tie.Need-part-do-final-end
 part-do-final-end c = search needs
 
--- src/packet.rt:22:9
 do-final-requires : tie.Need-do-final-requires
 do-final-requires c κs = search needs
 
--- src/packet.rt:25:24
 enum-known-r : tie.Need-enum-known-r
 enum-known-r c = search needs
 
--- src/packet.rt:27:20
 add-t13 : tie.Need-add-t13
 add-t13 c =
     let s = c .before .before .before .before .before .before .before .before in
@@ -35,19 +29,15 @@ add-t13 c =
     let bound = end-bound (s .args .n) (s .args .e) (s .args .out .now) _ (done .result) (done .ensures .0) (done .ensures .1) _ (c .before .r .given .1) (s .pre) in
     omega (arith, bound, s .good)
 
--- src/packet.rt:30:25
 enum-known-r-2 : tie.Need-enum-known-r-2
 enum-known-r-2 c = search needs
 
--- src/packet.rt:30:31
 reply-of-requires : tie.Need-reply-of-requires
 reply-of-requires c κs = search needs
 
--- src/packet.rt:17:1
 same-length : tie.Need-same-length
 same-length c = search needs
 
--- src/packet.rt:17:1
 returns : tie.Need-returns
 returns c =
     let a = c .before .before .before .before .before .before .before .before .args in
@@ -57,11 +47,9 @@ returns c =
       end-out (a .n) (a .e) (a .out .now) _ (done .result) (done .ensures .0) (done .ensures .1),
     )
 
--- src/packet.rt:17:1
 same-length-2 : tie.Need-same-length-2
 same-length-2 c = search needs
 
--- src/packet.rt:17:1
 returns-2 : tie.Need-returns-2
 returns-2 c =
     let a = c .before .before .before .before .before .before .before .before .before .args in

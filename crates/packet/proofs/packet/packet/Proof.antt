@@ -8,61 +8,48 @@ use borrow.Author.Needs.{needs}
 use Rattle.packet.proofs.packet.packet.Statement.{statement}
 use Rattle.packet.proofs.packet.packet.Tie as tie
 
--- src/packet.rt:61:9
 is-variant-requires : tie.Need-is-variant-requires
 is-variant-requires c κs = search needs
 
--- src/packet.rt:62:9
 returns : tie.Need-returns
 returns c =
     let a = c .before .before .before .before .before .before .before .args in
     let whole = sym (no-variant (a .v) (a .d) (a .key .now) (a .nonce .now) (a .header .now) (a .input .now) (a .out .now) (sym (c .before .is-variant .ensures) ∙ not-true _ (c .if1 .taken))) in
     (ap (λ (p : Packed). p .reply) whole, ap (λ (p : Packed). p .out) whole)
 
--- src/packet.rt:68:9
 variant-requires : tie.Need-variant-requires
 variant-requires c κs = search needs
 
--- src/packet.rt:70:9
 new-requires : tie.Need-new-requires
 new-requires c κs = search needs
 
--- src/packet.rt:74:9
 tag-bytes-requires : tie.Need-tag-bytes-requires
 tag-bytes-requires c κs = search needs
 
--- src/packet.rt:69:9
 init-requires : tie.Need-init-requires
 init-requires c κs = search needs
 
--- src/packet.rt:80:46
 enum-told : tie.Need-enum-told
 enum-told c = search needs
 
--- src/packet.rt:80:31
 data-requires : tie.Need-data-requires
 data-requires c κs = search needs
 
--- src/packet.rt:81:29
 enum-known-r : tie.Need-enum-known-r
 enum-known-r c = search needs
 
--- src/packet.rt:81:35
 start-reply-of-requires : tie.Need-start-reply-of-requires
 start-reply-of-requires c κs = search needs
 
--- src/packet.rt:49:1
 same-length : tie.Need-same-length
 same-length c = search needs
 
--- src/packet.rt:49:1
 returns-2 : tie.Need-returns-2
 returns-2 c =
     let a = c .before .before .before .before .before .before .before .before .before .before .before .before .before .before .before .before .before .before .args in
     let whole = sym (start-packet (a .v) (a .d) (a .key .now) (a .nonce .now) (a .header .now) (a .input .now) (a .out .now) (c .before .before .before .before .before .before .before .init .result) (c .before .before .before .before .before .before .before .before .tag-bytes .result) (c .before .before .before .before .before .before .before .before .before .before .variant .result) (c .before .before .before .before .before .before .before .before .before .new .result) (sym (c .before .before .before .before .before .before .before .before .before .before .before .before .is-variant .ensures) ∙ not-false _ (c .before .before .before .before .before .before .before .before .before .before .before .if1 .left)) (c .before .before .before .before .before .before .before .before .before .before .variant .ensures) (c .before .before .before .before .before .before .before .before .before .new .ensures) (c .before .before .before .before .before .before .before .before .tag-bytes .ensures) (c .before .before .before .before .before .before .before .init .ensures) Started (c .before .before .before .before .enum-told .given .1)) in
     (c .before .before .«data» .ensures .0 ∙ ap (λ (p : Packed). p .reply) whole, c .before .before .«data» .ensures .1 ∙ ap (λ (p : Packed). p .out) whole)
 
--- src/packet.rt:49:1
 returns-3 : tie.Need-returns-3
 returns-3 c =
     let a = c .before .before .before .before .before .before .before .before .before .before .before .before .before .before .before .before .args in

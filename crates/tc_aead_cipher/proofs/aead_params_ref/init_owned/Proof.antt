@@ -2,7 +2,7 @@
 -- lent for a lifetime that the walk makes; the parameters that `new` returns are held in a local and passed to `init_with`;
 -- the engine comes back with its last value. Of `new` and `init_with` the proof knows only that each meets its contract.
 -- Assumes nothing.
-use Rattle.tc_aead_cipher.proofs.Lent.{_≡_, refl, List, [], _∷_, ℕ, URA, fullShare, named, Val, vptr, vint, SProp, ent, Fml, GName, Lft, Share, ftrue, flft, fat, Memory, Routine, Heap, Calls, Loops, WpFn, Tables, Atoms, Fun, fact, givenOf, tables, Given, Item, ‵, raw, some, later, _⊛_, ⋆, _$_, _∵_, !, qed, by, move, drop, use1, use2, split, join, pick, rewrite, fsplit, fjoin, suffices, frame, await, done, look, init, forget, stop, from, load, addr, of-opd, and-then, no-more, assigns, land, returns, enter, alloc1, alloc0, params1, pass1, pass0, free1, free0, agg, FmC, owns, Is, shows, mem, u8, usize, w64, RefT, MutRef, plain, ShrSlice, slice-vals, shr-slice-tells, shr-slice-lawful, shr-slice-copy, owned, peeks, heard, nothing, onEntry, tripleOf, Contract, Triple, calls-at, ensured, lasts, entered, cited, says, Stays, stay-none, stay-none-slice, walkOf, goes-none, goes-none-slice, ends-at, yes, id⊢, uint-vals, uint-tells, uint-makes, uint-lawful, SparkleEngine, Started, AeadInitResult, R, e-vals, i-val, slice, e-typed, s-typed, i-typed, e-owned, meets, Meets, sem, sep, namedLft, RattleType, erased, lends, back, mean, both, e-val, i-is, s-is, e-spelled, i-spelled, only, exE, snd∗}
+use Rattle.tc_aead_cipher.proofs.Lent.{_≡_, refl, List, [], _∷_, ℕ, URA, fullShare, named, Val, vptr, vint, SProp, ent, Fml, GName, Lft, Share, ftrue, flft, fat, Memory, Routine, Heap, Calls, Loops, WpFn, Tables, Atoms, Fun, fact, givenOf, tables, Given, Item, ‵, raw, some, later, _⊛_, ⋆, _$_, _∵_, !, qed, by, move, drop, use1, use2, split, join, pick, rewrite, fsplit, fjoin, suffices, frame, await, done, look, init, forget, stop, from, load, addr, of-opd, and-then, no-more, assigns, land, returns, enter, alloc1, alloc0, params1, pass1, pass0, free1, free0, agg, FmC, owns, Is, shows, u8, usize, w64, RefT, MutRef, plain, ShrSlice, slice-vals, shr-slice-tells, shr-slice-lawful, shr-slice-copy, owned, peeks, heard, nothing, onEntry, tripleOf, Contract, Triple, calls-at, ensured, lasts, entered, cited, says, Stays, stay-none, stay-none-slice, walkOf, goes-none, goes-none-slice, ends-at, yes, id⊢, uint-vals, uint-tells, uint-makes, uint-lawful, SparkleEngine, Started, AeadInitResult, R, e-vals, i-val, slice, e-typed, s-typed, i-typed, e-owned, meets, Meets, sem, sep, namedLft, RattleType, erased, lends, back, mean, both, e-val, i-is, s-is, e-spelled, i-spelled, only, exE, snd∗}
 use mathlib.Core.Path.{_∙_, ap}
 use mir.Val.{vstruct}
 use contract.Lifetimes.{Lfts}

@@ -2,7 +2,7 @@
 -- three slices and the size, in the result's local. A `&[u8]` is Copy, so what it owns is had twice: for the parameter at
 -- exit, and inside the result.
 -- Assumes nothing.
-use Rattle.tc_aead_cipher.proofs.Lent.{refl, List, [], _∷_, ℕ, URA, named, Val, vint, SProp, ent, Fml, Lft, Share, ftrue, flft, Memory, Routine, Heap, Calls, Loops, WpFn, Tables, Atoms, Fun, givenOf, tables, Given, ‵, raw, _⊛_, _$_, _∵_, !, qed, by, move, drop, use1, split, fsplit, fjoin, suffices, frame, look, init, forget, stop, from, load, and-then, no-more, assigns, returns, enter, alloc1, alloc0, params1, pass1, pass0, free1, free0, agg, owns, Is, mem, u8, usize, w64, RefT, plain, ShrSlice, slice-vals, shr-slice-tells, shr-slice-lawful, shr-slice-copy, owned, nothing, onEntry, tripleOf, entered, says, Stays, stay-none, stay-none-slice, walkOf, goes-none, goes-none-slice, ends-at, yes, uint-vals, uint-tells, uint-makes, uint-lawful, slice, meets, Meets, sem, sep, namedLft}
+use Rattle.tc_aead_cipher.proofs.Lent.{refl, List, [], _∷_, ℕ, URA, named, Val, vint, SProp, ent, Fml, Lft, Share, ftrue, flft, Memory, Routine, Heap, Calls, Loops, WpFn, Tables, Atoms, Fun, givenOf, tables, Given, ‵, raw, _⊛_, _$_, _∵_, !, qed, by, move, drop, use1, split, fsplit, fjoin, suffices, frame, look, init, forget, stop, from, load, and-then, no-more, assigns, returns, enter, alloc1, alloc0, params1, pass1, pass0, free1, free0, agg, owns, Is, u8, usize, w64, RefT, plain, ShrSlice, slice-vals, shr-slice-tells, shr-slice-lawful, shr-slice-copy, owned, nothing, onEntry, tripleOf, entered, says, Stays, stay-none, stay-none-slice, walkOf, goes-none, goes-none-slice, ends-at, yes, uint-vals, uint-tells, uint-makes, uint-lawful, slice, meets, Meets, sem, sep, namedLft}
 use contract.Running.{tablesOf}
 use denote.Laws.{Typed}
 use denote.Ref.{NamedLft}
