@@ -115,7 +115,7 @@ readStart StartOk r d key nonce h =
           };
     }
 
--- The direction of a phase that takes calls, for what follows it.
+-- The phase after an accepted header call, and after an accepted data call.
 abbrev pub aadPhase : Phase → List ℕ → Phase
 aadPhase phase [] = phase
 aadPhase Uninitialized (x ∷ input) = Uninitialized

@@ -1,5 +1,5 @@
 -- The calls: for every engine value, the answer, the engine afterwards and the lent output (document 01, "At the entry:
--- phase and call" and "Down to the block"). A refused call is the engine itself.
+-- phase and call" and "Down to the block"). A call that is refused with 4, 5 or 7 to 10 leaves engine and output as they were.
 use Prim.Native.Nat.{ℕ, _+_, _-_, _*_, _/_, _%_, _^_, min}
 use mathlib.Core.Bool.{Bool, true, false, cond}
 use mathlib.Core.List.{List, [], _∷_, _++_}

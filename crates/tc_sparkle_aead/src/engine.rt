@@ -202,7 +202,7 @@ pub(crate) fn absorb(variant: SparkleVariant, d: Direction, at: Point, header: &
     }
 }
 
-// ---- reset, mac and the step count
+// ---- a point after the end or a reset, and no tag
 
 // The message has ended: words and buffer are wiped.
 pub(crate) fn final_point(d: Direction) -> Point
