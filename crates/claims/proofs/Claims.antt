@@ -26,9 +26,9 @@ use Rattle.claims.specs.Call.{Call, Alike, step, Line, sheet, runFrom, r
 use Rattle.claims.specs.Call.Outcome.{ok, no}
 use Rattle.claims.specs.Reader.{newReader, heldOf, repeated, read, reader, verdicts}
 use Rattle.claims.specs.Reader.Verdict.{Yes, No, None}
-use Rattle.claims.specs.Messages.{Each, outputs, headers, datas, HeaderCall, DataCall, messageCalls, Rooms, Ample}
+use Rattle.claims.specs.Messages.{Each, outputs, headerBytes, dataBytes, HeaderCall, DataCall, messageCalls, Rooms, Ample}
 use Rattle.claims.specs.Messages.{Completes, Rejects, RoundTrip}
-use Rattle.claims.specs.Messages.{Betweens, takenHeader, takenData, begunEngine, OpenedUnrefused, Asked, answerOf}
+use Rattle.claims.specs.Messages.{AllBetween, takenHeader, takenData, begunEngine, OpenedUnrefused, Asked, answerOf}
 use Rattle.claims.specs.Messages.{released, Writes, finishedBytes, messageOf, OpenEndExact, Ended, Before, stepsBefore}
 use Rattle.claims.specs.Messages.{stepsAfterInit, Keeps, handed, UnderWay, shownTags}
 use Rattle.claims.specs.Refused.{Refused, OfStart, Unchanging, Numbered, Returned, Wiped, Unchanged, Failed, lent}
@@ -107,7 +107,7 @@ other-refusals-change-nothing = unchanging-number-leaves
 pub sealing-is-the-specifications : (v : SparkleVariant) (before : List Call) (key nonce : List ℕ) (size : ℕ)
     (initial : List ℕ) (between : List Call) (out : List ℕ) (k n : ℕ)
     → step (run v before) (Call.start Encrypt key nonce size initial) .outcome ≡ ok k
-    → Betweens (begunEngine v before Encrypt key nonce size initial) between
+    → AllBetween (begunEngine v before Encrypt key nonce size initial) between
     → step (runFrom (begunEngine v before Encrypt key nonce size initial) between) (Call.end out) .outcome ≡ ok n
     → outputs (run v before) (Call.start Encrypt key nonce size initial ∷ (between ++ (Call.end out ∷ [])))
     ≡ seal (paramsOf v) key nonce (initial ++ takenHeader (begunEngine v before Encrypt key nonce size initial) between)
@@ -122,9 +122,9 @@ pub sealing-with-room-is-accepted : (v : SparkleVariant) (before : List Call) (k
     → repeated (reader v before) key nonce ≡ false
     → Rooms (run v before) (messageCalls Encrypt key nonce size initial hs ms out)
     → Completes (run v before) (messageCalls Encrypt key nonce size initial hs ms out)
-    (seal (paramsOf v) key nonce (initial ++ headers hs) (datas ms))
-    (tag (paramsOf v) key nonce (initial ++ headers hs) (datas ms))
-    (steps (paramsOf v) (length (initial ++ headers hs)) (length (datas ms)) % 2 ^ 64)
+    (seal (paramsOf v) key nonce (initial ++ headerBytes hs) (dataBytes ms))
+    (tag (paramsOf v) key nonce (initial ++ headerBytes hs) (dataBytes ms))
+    (steps (paramsOf v) (length (initial ++ headerBytes hs)) (length (dataBytes ms)) % 2 ^ 64)
 sealing-with-room-is-accepted = sealed
 
 -- Outputs that have the room asked for there and below, whatever was called before: a data call's output that has 64 bytes
@@ -140,10 +140,10 @@ pub opening-returns-the-message : (v : SparkleVariant) (before after : List Call
     → Each HeaderCall hs' → Each DataCall ms' → repeated (reader v before) key nonce ≡ false
     → Rooms (run v before) (messageCalls Encrypt key nonce size initial hs ms out)
     → Rooms (run v after) (messageCalls Decrypt key nonce size initial' hs' ms' out')
-    → initial' ++ headers hs' ≡ initial ++ headers hs
-    → datas ms' ≡ outputs (run v before) (messageCalls Encrypt key nonce size initial hs ms out)
+    → initial' ++ headerBytes hs' ≡ initial ++ headerBytes hs
+    → dataBytes ms' ≡ outputs (run v before) (messageCalls Encrypt key nonce size initial hs ms out)
     → RoundTrip v before after (messageCalls Encrypt key nonce size initial hs ms out)
-    (messageCalls Decrypt key nonce size initial' hs' ms' out') (datas ms)
+    (messageCalls Decrypt key nonce size initial' hs' ms' out') (dataBytes ms)
 opening-returns-the-message = opened-sealed
 
 -- 2.3, of unrefused calls in the sense of 2.2: where neither the sealing's start and end nor the opening's are refused, the
@@ -151,10 +151,10 @@ opening-returns-the-message = opened-sealed
 pub unrefused-opening-returns-the-message : (v : SparkleVariant) (before after : List Call) (key nonce : List ℕ)
     (size size' : ℕ) (initial initial' : List ℕ) (between between' : List Call) (out out' : List ℕ) (k k' n n' : ℕ)
     → step (run v before) (Call.start Encrypt key nonce size initial) .outcome ≡ ok k
-    → Betweens (begunEngine v before Encrypt key nonce size initial) between
+    → AllBetween (begunEngine v before Encrypt key nonce size initial) between
     → step (runFrom (begunEngine v before Encrypt key nonce size initial) between) (Call.end out) .outcome ≡ ok n
     → step (run v after) (Call.start Decrypt key nonce size' initial') .outcome ≡ ok k'
-    → Betweens (begunEngine v after Decrypt key nonce size' initial') between'
+    → AllBetween (begunEngine v after Decrypt key nonce size' initial') between'
     → step (runFrom (begunEngine v after Decrypt key nonce size' initial') between') (Call.end out') .outcome ≡ ok n'
     → initial' ++ takenHeader (begunEngine v after Decrypt key nonce size' initial') between'
     ≡ initial ++ takenHeader (begunEngine v before Encrypt key nonce size initial) between
@@ -168,7 +168,7 @@ unrefused-opening-returns-the-message = returned-unrefused
 pub opening-is-the-specifications : (v : SparkleVariant) (before : List Call) (key nonce : List ℕ) (size : ℕ)
     (initial : List ℕ) (between : List Call) (out : List ℕ) (k n : ℕ)
     → step (run v before) (Call.start Decrypt key nonce size initial) .outcome ≡ ok k
-    → Betweens (begunEngine v before Decrypt key nonce size initial) between
+    → AllBetween (begunEngine v before Decrypt key nonce size initial) between
     → step (runFrom (begunEngine v before Decrypt key nonce size initial) between) (Call.end out) .outcome ≡ ok n
     → OpenedUnrefused v key nonce (initial ++ takenHeader (begunEngine v before Decrypt key nonce size initial) between)
     (takenData (begunEngine v before Decrypt key nonce size initial) between)
@@ -181,13 +181,13 @@ pub opening-with-room-is-accepted : (v : SparkleVariant) (before : List Call) (k
     (initial : List ℕ) (hs ms : List Call) (out : List ℕ) → length key ≡ paramsOf v .key → length nonce ≡ paramsOf v .rate
     → size ≡ paramsOf v .key → Each HeaderCall hs → Each DataCall ms
     → Rooms (run v before) (messageCalls Decrypt key nonce size initial hs ms out)
-    → paramsOf v .key ≤ length (datas ms)
-    → verified (paramsOf v) key nonce (initial ++ headers hs) (datas ms) ≡ true
+    → paramsOf v .key ≤ length (dataBytes ms)
+    → verified (paramsOf v) key nonce (initial ++ headerBytes hs) (dataBytes ms) ≡ true
     → Completes (run v before) (messageCalls Decrypt key nonce size initial hs ms out)
-    (decrypt (paramsOf v) key nonce (initial ++ headers hs) (bodyOf (paramsOf v) (datas ms)))
-    (tag (paramsOf v) key nonce (initial ++ headers hs)
-    (decrypt (paramsOf v) key nonce (initial ++ headers hs) (bodyOf (paramsOf v) (datas ms))))
-    (steps (paramsOf v) (length (initial ++ headers hs)) (length (datas ms) - paramsOf v .key) % 2 ^ 64)
+    (decrypt (paramsOf v) key nonce (initial ++ headerBytes hs) (bodyOf (paramsOf v) (dataBytes ms)))
+    (tag (paramsOf v) key nonce (initial ++ headerBytes hs)
+    (decrypt (paramsOf v) key nonce (initial ++ headerBytes hs) (bodyOf (paramsOf v) (dataBytes ms))))
+    (steps (paramsOf v) (length (initial ++ headerBytes hs)) (length (dataBytes ms) - paramsOf v .key) % 2 ^ 64)
 opening-with-room-is-accepted = opened
 
 -- 2.4 "Proved: a tag passes exactly when it is the specification's." After every list of calls, at an opening's end past
@@ -204,10 +204,10 @@ pub wrong-tag-is-rejected : (v : SparkleVariant) (before : List Call) (key nonce
     (hs ms : List Call) (out : List ℕ) → length key ≡ paramsOf v .key → length nonce ≡ paramsOf v .rate
     → size ≡ paramsOf v .key → Each HeaderCall hs → Each DataCall ms
     → Rooms (run v before) (messageCalls Decrypt key nonce size initial hs ms out)
-    → paramsOf v .key ≤ length (datas ms)
-    → verified (paramsOf v) key nonce (initial ++ headers hs) (datas ms) ≡ false
+    → paramsOf v .key ≤ length (dataBytes ms)
+    → verified (paramsOf v) key nonce (initial ++ headerBytes hs) (dataBytes ms) ≡ false
     → Rejects (run v before) (Call.start Decrypt key nonce size initial ∷ (hs ++ ms)) out
-    (steps (paramsOf v) (length (initial ++ headers hs)) (length (datas ms) - paramsOf v .key) % 2 ^ 64)
+    (steps (paramsOf v) (length (initial ++ headerBytes hs)) (length (dataBytes ms) - paramsOf v .key) % 2 ^ 64)
 wrong-tag-is-rejected = rejected
 
 -- 2.4, the tag that is shown: whenever one can be read, it is the specification's of the message.

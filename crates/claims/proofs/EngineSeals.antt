@@ -19,7 +19,7 @@ use Rattle.tc_sparkle_aead.specs.Calls.{macOf}
 use Rattle.claims.specs.Call.{Call, outcome, step, line, run, runFrom}
 use Rattle.claims.specs.Call.Outcome.{ok}
 use Rattle.claims.specs.Reader.{Reader, heldOf, readMessage, read, readFrom, reader}
-use Rattle.claims.specs.Messages.{outputs, Betweens, begunEngine, wrote, answerOf, handedBy, handed, UnderWay, released}
+use Rattle.claims.specs.Messages.{outputs, AllBetween, begunEngine, wrote, answerOf, handedBy, handed, UnderWay, released}
 use Rattle.claims.specs.Messages.{finishedBytes}
 use Rattle.claims.specs.Machine.{engine, linesOf, sheetOf, bytesOf, Piece, dataCalls, joined, pieceCalls, AllOk}
 use Rattle.claims.specs.Machine.{after, handedOf, Demand2}
@@ -50,7 +50,7 @@ data-calls [] out = refl
 data-calls (x ∷ pieces) out =
     ap (λ (l : List Call). Call.message (x .input) (x .out) ∷ l) (data-calls pieces out)
 
-messages-between : (e : SparkleEngine) (pieces : List Piece) → Betweens e (messages pieces)
+messages-between : (e : SparkleEngine) (pieces : List Piece) → AllBetween e (messages pieces)
 messages-between e [] = tt
 messages-between e (x ∷ pieces) = (tt, messages-between (step e (Call.message (x .input) (x .out)) .engine) pieces)
 

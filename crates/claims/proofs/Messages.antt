@@ -32,8 +32,8 @@ use Rattle.tc_sparkle_aead.proofs.CheckLaws.{updateLen-fits, totalLen-opening, 
 use Rattle.claims.specs.Call.{Call, step, runFrom, run, Outcome, outcome, startOutcome}
 use Rattle.claims.specs.Reader.{Reader, heldOf, headerPhase, repeated, aadPhase, readHeader, readMessage, read}
 use Rattle.claims.specs.Reader.{readFrom, reader}
-use Rattle.claims.specs.Messages.{messageOf, headerIn, dataOf, countOf, outputs, Between, Betweens, Each, begunEngine}
-use Rattle.claims.specs.Messages.{headers, datas, HeaderCall, DataCall, messageCalls, RoomFor, Rooms, Ample, Taken}
+use Rattle.claims.specs.Messages.{messageOf, headerIn, dataOf, countOf, outputs, Between, AllBetween, Each, begunEngine}
+use Rattle.claims.specs.Messages.{headerBytes, dataBytes, HeaderCall, DataCall, messageCalls, RoomFor, Rooms, Ample, Taken}
 use Rattle.claims.specs.Messages.{Accepts, Completes, Rejects, RoundTrip}
 use Rattle.claims.proofs.Packets.{length-body}
 use Rattle.claims.proofs.Kept.{Follows, Standing, engineOf}
@@ -77,11 +77,11 @@ data-between e Call.tag b = b
 data-between e (Call.update n) b = b
 data-between e (Call.output n) b = b
 
-datas-between : (e : SparkleEngine) (ms : List Call) → Each DataCall ms → Betweens e ms
+datas-between : (e : SparkleEngine) (ms : List Call) → Each DataCall ms → AllBetween e ms
 datas-between e [] b = tt
 datas-between e (c ∷ ms) b = (data-between e c (b .0), datas-between (step e c .engine) ms (b .1))
 
-all-between : (e : SparkleEngine) (hs ms : List Call) → Each HeaderCall hs → Each DataCall ms → Betweens e (hs ++ ms)
+all-between : (e : SparkleEngine) (hs ms : List Call) → Each HeaderCall hs → Each DataCall ms → AllBetween e (hs ++ ms)
 all-between e [] ms bh bm = datas-between e ms bm
 all-between e (c ∷ hs) ms bh bm = (header-between e c (bh .0), all-between (step e c .engine) hs ms (bh .1) bm)
 
@@ -126,7 +126,7 @@ header-taken v e r w t input =
 record Headed (v : SparkleVariant) (d : Direction) (e : SparkleEngine) (r : Reader) (calls : List Call) : Type 0 where
   taken : Accepts e calls
   heading : Heading d (readFrom (paramsOf v) r calls .phase)
-  header-is : readFrom (paramsOf v) r calls .header ≡ r .header ++ headers calls
+  header-is : readFrom (paramsOf v) r calls .header ≡ r .header ++ headerBytes calls
   body-is : readFrom (paramsOf v) r calls .body ≡ r .body
 
 -- one call more
@@ -140,7 +140,7 @@ headed-more v d e r c calls t h b q =
       taken = (t, q .taken);
       heading = q .heading;
       header-is =
-          q .header-is ∙ ap (λ (l : List ℕ). l ++ headers calls) h ∙ append-assoc (r .header) (headerIn c) (headers calls);
+          q .header-is ∙ ap (λ (l : List ℕ). l ++ headerBytes calls) h ∙ append-assoc (r .header) (headerIn c) (headerBytes calls);
       body-is = q .body-is ∙ b;
     }
 
@@ -273,7 +273,7 @@ message-passes v e r w t input out enough =
 record Carried (v : SparkleVariant) (e : SparkleEngine) (r : Reader) (calls : List Call) : Type 0 where
   taken : Accepts e calls
   header-is : readFrom (paramsOf v) r calls .header ≡ r .header
-  body-is : readFrom (paramsOf v) r calls .body ≡ r .body ++ datas calls
+  body-is : readFrom (paramsOf v) r calls .body ≡ r .body ++ dataBytes calls
 
 carried-more : (v : SparkleVariant) (e : SparkleEngine) (r : Reader) (c : Call) (calls : List Call)
     → Taken c (step e c .outcome) → read (paramsOf v) r c .reader .header ≡ r .header
@@ -284,7 +284,7 @@ carried-more v e r c calls t h b q =
     record {
       taken = (t, q .taken);
       header-is = q .header-is ∙ h;
-      body-is = q .body-is ∙ ap (λ (l : List ℕ). l ++ datas calls) b ∙ append-assoc (r .body) (dataOf c) (datas calls);
+      body-is = q .body-is ∙ ap (λ (l : List ℕ). l ++ dataBytes calls) b ∙ append-assoc (r .body) (dataOf c) (dataBytes calls);
     }
 
 datas-taken : (v : SparkleVariant) (d : Direction) (e : SparkleEngine) (r : Reader) → Follows v e r → Takes d (r .phase)
@@ -400,8 +400,8 @@ heading-takes heading-aad = Takes.takes-aad
 record Arrived (v : SparkleVariant) (d : Direction) (key nonce initial : List ℕ) (e : SparkleEngine)
     (hs ms : List Call) : Type 0 where
   taken : Accepts e (hs ++ ms)
-  header-is : lastReader v d key nonce initial (hs ++ ms) .header ≡ initial ++ headers hs
-  body-is : lastReader v d key nonce initial (hs ++ ms) .body ≡ datas ms
+  header-is : lastReader v d key nonce initial (hs ++ ms) .header ≡ initial ++ headerBytes hs
+  body-is : lastReader v d key nonce initial (hs ++ ms) .body ≡ dataBytes ms
 
 arrived : (v : SparkleVariant) (d : Direction) (key nonce initial : List ℕ) (e : SparkleEngine)
     → Follows v e (startedReader d key nonce initial)
@@ -419,7 +419,7 @@ arrived v d key nonce initial e w hs ms bh bm rooms =
     record {
       taken = accepts-append e hs ms (hq .taken) (dq .taken);
       header-is = ap (λ (x : Reader). x .header) is ∙ dq .header-is ∙ hq .header-is;
-      body-is = ap (λ (x : Reader). x .body) is ∙ dq .body-is ∙ ap (λ (l : List ℕ). l ++ datas ms) (hq .body-is);
+      body-is = ap (λ (x : Reader). x .body) is ∙ dq .body-is ∙ ap (λ (l : List ℕ). l ++ dataBytes ms) (hq .body-is);
     }
 
 module _ (v : SparkleVariant) (before : List Call) (key nonce : List ℕ) (size : ℕ) (initial : List ℕ) (hs ms : List Call)
@@ -427,7 +427,7 @@ module _ (v : SparkleVariant) (before : List Call) (key nonce : List ℕ) (size 
     (key-fits : length key ≡ paramsOf v .key) (nonce-fits : length nonce ≡ paramsOf v .rate)
     (size-fits : size ≡ paramsOf v .key)
     (bh : Each HeaderCall hs) (bm : Each DataCall ms) where
-  between : (d : Direction) → Betweens (begunEngine v before d key nonce size initial) (hs ++ ms)
+  between : (d : Direction) → AllBetween (begunEngine v before d key nonce size initial) (hs ++ ms)
   between d = all-between (begunEngine v before d key nonce size initial) hs ms bh bm
 
   -- a start that is taken
@@ -469,7 +469,7 @@ module _ (v : SparkleVariant) (before : List Call) (key nonce : List ℕ) (size 
     -- what is said of the last reader's parts is said of what was handed in
     in-parts : (A : Type 0) (g : (key nonce header body : List ℕ) → A)
         → (let r = lastReader v d key nonce initial (hs ++ ms) in g (r .key) (r .nonce) (r .header) (r .body))
-        ≡ g key nonce (initial ++ headers hs) (datas ms)
+        ≡ g key nonce (initial ++ headerBytes hs) (dataBytes ms)
     in-parts A g =
         let r = lastReader v d key nonce initial (hs ++ ms) in
         ap₂ (λ (x y : List ℕ). g x y (r .header) (r .body)) (end-going .key-is) (end-going .nonce-is)
@@ -486,9 +486,9 @@ module _ (v : SparkleVariant) (before : List Call) (key nonce : List ℕ) (size 
   pub sealed : repeated (reader v before) key nonce ≡ false
       → Rooms (run v before) (messageCalls Encrypt key nonce size initial hs ms out)
       → Completes (run v before) (messageCalls Encrypt key nonce size initial hs ms out)
-      (seal (paramsOf v) key nonce (initial ++ headers hs) (datas ms))
-      (tag (paramsOf v) key nonce (initial ++ headers hs) (datas ms))
-      (steps (paramsOf v) (length (initial ++ headers hs)) (length (datas ms)) % 2 ^ 64)
+      (seal (paramsOf v) key nonce (initial ++ headerBytes hs) (dataBytes ms))
+      (tag (paramsOf v) key nonce (initial ++ headerBytes hs) (dataBytes ms))
+      (steps (paramsOf v) (length (initial ++ headerBytes hs)) (length (dataBytes ms)) % 2 ^ 64)
   unfolding messageOf
   sealed fresh rooms =
       let p = paramsOf v in
@@ -523,7 +523,7 @@ module _ (v : SparkleVariant) (before : List Call) (key nonce : List ℕ) (size 
   -- After any calls, an opening of a verified packet with room for its outputs is accepted, and writes what the packet's
   -- body decrypts to, however header and packet are cut.
   module _ (rooms : Rooms (run v before) (messageCalls Decrypt key nonce size initial hs ms out))
-      (tagged : paramsOf v .key ≤ length (datas ms)) where
+      (tagged : paramsOf v .key ≤ length (dataBytes ms)) where
     -- an opening's end past its checks
     open-checked : (n : ℕ)
         × (endCheck (paramsOf v) (lastReader v Decrypt key nonce initial (hs ++ ms) .phase)
@@ -534,7 +534,7 @@ module _ (v : SparkleVariant) (before : List Call) (key nonce : List ℕ) (size 
 
     -- the message is what the packet decrypts to
     open-message : messageOf (paramsOf v) (lastReader v Decrypt key nonce initial (hs ++ ms))
-        ≡ decrypt (paramsOf v) key nonce (initial ++ headers hs) (bodyOf (paramsOf v) (datas ms))
+        ≡ decrypt (paramsOf v) key nonce (initial ++ headerBytes hs) (bodyOf (paramsOf v) (dataBytes ms))
     unfolding messageOf
     open-message =
         let p = paramsOf v in
@@ -546,17 +546,17 @@ module _ (v : SparkleVariant) (before : List Call) (key nonce : List ℕ) (size 
     open-steps : (e : SparkleEngine) → stepsNow e
         ≡ steps (paramsOf v) (length (lastReader v Decrypt key nonce initial (hs ++ ms) .header))
         (length (messageOf (paramsOf v) (lastReader v Decrypt key nonce initial (hs ++ ms)))) % 2 ^ 64
-        → stepsNow e ≡ steps (paramsOf v) (length (initial ++ headers hs)) (length (datas ms) - paramsOf v .key) % 2 ^ 64
+        → stepsNow e ≡ steps (paramsOf v) (length (initial ++ headerBytes hs)) (length (dataBytes ms) - paramsOf v .key) % 2 ^ 64
     open-steps e h =
         let p = paramsOf v in
         h
         ∙ ap₂ (λ (x y : List ℕ). steps p (length x) (length y) % 2 ^ 64)
         (ready-end Decrypt opening-starts rooms .header-is) open-message
-        ∙ ap (λ (k : ℕ). steps p (length (initial ++ headers hs)) k % 2 ^ 64)
-        (length-decrypt p (sizes v) key nonce (initial ++ headers hs) (bodyOf p (datas ms)) ∙ length-body p
-        (datas ms) tagged)
+        ∙ ap (λ (k : ℕ). steps p (length (initial ++ headerBytes hs)) k % 2 ^ 64)
+        (length-decrypt p (sizes v) key nonce (initial ++ headerBytes hs) (bodyOf p (dataBytes ms)) ∙ length-body p
+        (dataBytes ms) tagged)
 
-    module _ (g : Bool) (is : verified (paramsOf v) key nonce (initial ++ headers hs) (datas ms) ≡ g) where
+    module _ (g : Bool) (is : verified (paramsOf v) key nonce (initial ++ headerBytes hs) (dataBytes ms) ≡ g) where
       open-verdict : verified (paramsOf v) (lastReader v Decrypt key nonce initial (hs ++ ms) .key)
           (lastReader v Decrypt key nonce initial (hs ++ ms) .nonce)
           (lastReader v Decrypt key nonce initial (hs ++ ms) .header)
@@ -572,27 +572,27 @@ module _ (v : SparkleVariant) (before : List Call) (key nonce : List ℕ) (size 
 
       open-mac : macOf
           (step (runFrom (begunEngine v before Decrypt key nonce size initial) (hs ++ ms)) (Call.end out) .engine)
-          ≡ cond g (readable (tag (paramsOf v) key nonce (initial ++ headers hs)
-          (decrypt (paramsOf v) key nonce (initial ++ headers hs) (bodyOf (paramsOf v) (datas ms))))) noMac
+          ≡ cond g (readable (tag (paramsOf v) key nonce (initial ++ headerBytes hs)
+          (decrypt (paramsOf v) key nonce (initial ++ headerBytes hs) (bodyOf (paramsOf v) (dataBytes ms))))) noMac
       open-mac =
           let p = paramsOf v in
           let r = lastReader v Decrypt key nonce initial (hs ++ ms) in
-          let H = initial ++ headers hs in
+          let H = initial ++ headerBytes hs in
           let z = end-ended v _ r (end-follows Decrypt opening-starts rooms) out (open-checked .0) (open-checked .1) in
           let t = takes-opening (end-going Decrypt opening-starts rooms .takes) in
           z .mac-is
           ∙ ap₂ (λ (b : Bool) (x : List ℕ). cond (cond b (verified p (r .key) (r .nonce) (r .header) (r .body)) true)
           (readable (tag p (r .key) (r .nonce) (r .header) x)) noMac)
           t open-message
-          ∙ ap (λ (b : Bool). cond b (readable (tag p (r .key) (r .nonce) (r .header) (decrypt p key nonce H (bodyOf p (datas ms))))) noMac) open-verdict
+          ∙ ap (λ (b : Bool). cond b (readable (tag p (r .key) (r .nonce) (r .header) (decrypt p key nonce H (bodyOf p (dataBytes ms))))) noMac) open-verdict
           ∙ in-parts Decrypt opening-starts rooms Mac (λ k n x y. cond g
-          (readable (tag p k n x (decrypt p key nonce H (bodyOf p (datas ms))))) noMac)
+          (readable (tag p k n x (decrypt p key nonce H (bodyOf p (dataBytes ms))))) noMac)
 
-    pub opened : verified (paramsOf v) key nonce (initial ++ headers hs) (datas ms) ≡ true
+    pub opened : verified (paramsOf v) key nonce (initial ++ headerBytes hs) (dataBytes ms) ≡ true
         → Completes (run v before) (messageCalls Decrypt key nonce size initial hs ms out)
-        (decrypt (paramsOf v) key nonce (initial ++ headers hs) (bodyOf (paramsOf v) (datas ms)))
-        (tag (paramsOf v) key nonce (initial ++ headers hs) (decrypt (paramsOf v) key nonce (initial ++ headers hs) (bodyOf (paramsOf v) (datas ms))))
-        (steps (paramsOf v) (length (initial ++ headers hs)) (length (datas ms) - paramsOf v .key) % 2 ^ 64)
+        (decrypt (paramsOf v) key nonce (initial ++ headerBytes hs) (bodyOf (paramsOf v) (dataBytes ms)))
+        (tag (paramsOf v) key nonce (initial ++ headerBytes hs) (decrypt (paramsOf v) key nonce (initial ++ headerBytes hs) (bodyOf (paramsOf v) (dataBytes ms))))
+        (steps (paramsOf v) (length (initial ++ headerBytes hs)) (length (dataBytes ms) - paramsOf v .key) % 2 ^ 64)
     opened good =
         let p = paramsOf v in
         let o = opening-starts in
@@ -613,9 +613,9 @@ module _ (v : SparkleVariant) (before : List Call) (key nonce : List ℕ) (size 
         }
 
     -- A packet that is not verified is refused with 6 at the end, and nothing else is refused.
-    pub rejected : verified (paramsOf v) key nonce (initial ++ headers hs) (datas ms) ≡ false
+    pub rejected : verified (paramsOf v) key nonce (initial ++ headerBytes hs) (dataBytes ms) ≡ false
         → Rejects (run v before) (Call.start Decrypt key nonce size initial ∷ (hs ++ ms)) out
-        (steps (paramsOf v) (length (initial ++ headers hs)) (length (datas ms) - paramsOf v .key) % 2 ^ 64)
+        (steps (paramsOf v) (length (initial ++ headerBytes hs)) (length (dataBytes ms) - paramsOf v .key) % 2 ^ 64)
     unfolding runFrom
     rejected bad =
         let o = opening-starts in
@@ -642,18 +642,18 @@ pub opened-sealed : (v : SparkleVariant) (before after : List Call) (key nonce :
     → repeated (reader v before) key nonce ≡ false
     → Rooms (run v before) (messageCalls Encrypt key nonce size initial hs ms out)
     → Rooms (run v after) (messageCalls Decrypt key nonce size initial' hs' ms' out')
-    → initial' ++ headers hs' ≡ initial ++ headers hs
-    → datas ms' ≡ outputs (run v before) (messageCalls Encrypt key nonce size initial hs ms out)
+    → initial' ++ headerBytes hs' ≡ initial ++ headerBytes hs
+    → dataBytes ms' ≡ outputs (run v before) (messageCalls Encrypt key nonce size initial hs ms out)
     → RoundTrip v before after (messageCalls Encrypt key nonce size initial hs ms out)
-    (messageCalls Decrypt key nonce size initial' hs' ms' out') (datas ms)
+    (messageCalls Decrypt key nonce size initial' hs' ms' out') (dataBytes ms)
 opened-sealed v before after key nonce size initial initial' hs hs' ms ms' out out' kf nf sf bh bm bh' bm' fresh rooms rooms' he de =
     let p = paramsOf v in
-    let H = initial ++ headers hs in
-    let m = datas ms in
+    let H = initial ++ headerBytes hs in
+    let m = dataBytes ms in
     let s = sealed v before key nonce size initial hs ms out kf nf sf bh bm fresh rooms in
-    let packet : datas ms' ≡ seal p key nonce H m = de ∙ s .bytes-are in
-    let tagged : p .key ≤ length (datas ms') = omega (arith, ap length packet, length-seal p (sizes v) key nonce H kf m) in
-    let good : verified p key nonce (initial' ++ headers hs') (datas ms') ≡ true =
+    let packet : dataBytes ms' ≡ seal p key nonce H m = de ∙ s .bytes-are in
+    let tagged : p .key ≤ length (dataBytes ms') = omega (arith, ap length packet, length-seal p (sizes v) key nonce H kf m) in
+    let good : verified p key nonce (initial' ++ headerBytes hs') (dataBytes ms') ≡ true =
     ap₂ (λ (x y : List ℕ). verified p key nonce x y) he packet ∙ verified-seal p (sizes v) key nonce H kf m in
     let q = opened v after key nonce size initial' hs' ms' out' kf nf sf bh' bm' rooms' tagged good in
     record {

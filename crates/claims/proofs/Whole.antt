@@ -31,7 +31,7 @@ use Rattle.claims.specs.Call.{Call, Left, step, runFrom, run, Outcome, o
 use Rattle.claims.specs.Reader.{Reader, heldOf, headerPhase, repeated, aadPhase, dataPhase, readHeader, readMessage}
 use Rattle.claims.specs.Reader.{readStart, readEnd, read, readFrom, reader}
 use Rattle.claims.specs.Messages.{released, Writes, countOf, wrote, outputs, headerIn, dataOf, RefusedByCheck, Between}
-use Rattle.claims.specs.Messages.{Betweens, ifOk, takenHeader, takenData, begunEngine, OpenedUnrefused}
+use Rattle.claims.specs.Messages.{AllBetween, ifOk, takenHeader, takenData, begunEngine, OpenedUnrefused}
 use Rattle.claims.proofs.Points.{ready-zero}
 use Rattle.claims.proofs.Kept.{Follows, Standing, pairIn, engineOf, repeats-agree}
 use Rattle.claims.proofs.Follows.{Takes, kept, follows-step, follows-from, follows-run, aad-some, header-answer}
@@ -111,7 +111,7 @@ module _ (d : Direction) (key nonce : List ℕ) where
   going-step v e r w (Call.update n) b g = g
   going-step v e r w (Call.output n) b g = g
 
-  pub going-from : (v : SparkleVariant) (e : SparkleEngine) (r : Reader) → Follows v e r → (calls : List Call) → Betweens e calls
+  pub going-from : (v : SparkleVariant) (e : SparkleEngine) (r : Reader) → Follows v e r → (calls : List Call) → AllBetween e calls
       → Going d key nonce r → Going d key nonce (readFrom (paramsOf v) r calls)
   unfolding readFrom
   going-from v e r w [] b g = g
@@ -207,7 +207,7 @@ released-step v e r w (Call.output n) b =
     unfold read in unwritten (released (paramsOf v) r) _ (wrote-none (step e (Call.output n)) refl)
 
 released-from : (v : SparkleVariant) (e : SparkleEngine) (r : Reader) → Follows v e r → (calls : List Call)
-    → Betweens e calls
+    → AllBetween e calls
     → released (paramsOf v) (readFrom (paramsOf v) r calls) ≡ released (paramsOf v) r ++ outputs e calls
 unfolding readFrom outputs
 released-from v e r w [] b = sym (append-nil (released (paramsOf v) r))
@@ -288,7 +288,7 @@ data-step-taken v e r w (Call.update n) b = same-kept (r .body) (r .body) (step 
 data-step-taken v e r w (Call.output n) b = same-kept (r .body) (r .body) (step e (Call.output n) .outcome) refl
 
 header-taken-from : (v : SparkleVariant) (e : SparkleEngine) (r : Reader) → Follows v e r → (calls : List Call)
-    → Betweens e calls
+    → AllBetween e calls
     → readFrom (paramsOf v) r calls .header ≡ r .header ++ takenHeader e calls
 unfolding readFrom takenHeader
 header-taken-from v e r w [] b = sym (append-nil (r .header))
@@ -298,7 +298,7 @@ header-taken-from v e r w (c ∷ calls) b =
     ∙ append-assoc (r .header) (ifOk (step e c .outcome) (headerIn c)) (takenHeader (step e c .engine) calls)
 
 data-taken-from : (v : SparkleVariant) (e : SparkleEngine) (r : Reader) → Follows v e r → (calls : List Call)
-    → Betweens e calls
+    → AllBetween e calls
     → readFrom (paramsOf v) r calls .body ≡ r .body ++ takenData e calls
 unfolding readFrom takenData
 data-taken-from v e r w [] b = sym (append-nil (r .body))
@@ -358,7 +358,7 @@ lastReader v d key nonce initial between = readFrom (paramsOf v) (startedReader 
 module _ (v : SparkleVariant) (before : List Call) (d : Direction) (key nonce : List ℕ) (size : ℕ) (initial : List ℕ)
     (between : List Call) (out : List ℕ) where
   module _ (k : ℕ) (taken : step (run v before) (Call.start d key nonce size initial) .outcome ≡ Outcome.ok k)
-      (b : Betweens (begunEngine v before d key nonce size initial) between) where
+      (b : AllBetween (begunEngine v before d key nonce size initial) between) where
     pub begun-follows : Follows v (begunEngine v before d key nonce size initial) (startedReader d key nonce initial)
     begun-follows =
         let w = follows-run v before in
@@ -408,7 +408,7 @@ ended-bytes a b out n l o q = q .bytes ∙ ap (λ (x : Outcome). a ++ take (coun
 pub sealed-taken : (v : SparkleVariant) (before : List Call) (key nonce : List ℕ) (size : ℕ) (initial : List ℕ)
     (between : List Call) (out : List ℕ)
     (k n : ℕ) → step (run v before) (Call.start Encrypt key nonce size initial) .outcome ≡ Outcome.ok k
-    → Betweens (begunEngine v before Encrypt key nonce size initial) between
+    → AllBetween (begunEngine v before Encrypt key nonce size initial) between
     → step (runFrom (begunEngine v before Encrypt key nonce size initial) between) (Call.end out) .outcome ≡ Outcome.ok n
     → outputs (run v before) (Call.start Encrypt key nonce size initial ∷ (between ++ (Call.end out ∷ [])))
     ≡ seal (paramsOf v) key nonce (lastReader v Encrypt key nonce initial between .header)
@@ -452,7 +452,7 @@ cond-ok false n m e = absurd (let z : _≡_ {A = ℕ} 0 1 = cc in omega arith)
 pub opened-taken : (v : SparkleVariant) (before : List Call) (key nonce : List ℕ) (size : ℕ) (initial : List ℕ)
     (between : List Call) (out : List ℕ)
     (k n : ℕ) → step (run v before) (Call.start Decrypt key nonce size initial) .outcome ≡ Outcome.ok k
-    → Betweens (begunEngine v before Decrypt key nonce size initial) between
+    → AllBetween (begunEngine v before Decrypt key nonce size initial) between
     → step (runFrom (begunEngine v before Decrypt key nonce size initial) between) (Call.end out) .outcome ≡ Outcome.ok n
     → OpenedTaken v key nonce (lastReader v Decrypt key nonce initial between)
     (outputs (run v before) (Call.start Decrypt key nonce size initial ∷ (between ++ (Call.end out ∷ []))))
@@ -492,7 +492,7 @@ opened-taken v before key nonce size initial between out k n taken b o =
 pub sealed-unrefused : (v : SparkleVariant) (before : List Call) (key nonce : List ℕ) (size : ℕ) (initial : List ℕ)
     (between : List Call) (out : List ℕ)
     (k n : ℕ) → step (run v before) (Call.start Encrypt key nonce size initial) .outcome ≡ Outcome.ok k
-    → Betweens (begunEngine v before Encrypt key nonce size initial) between
+    → AllBetween (begunEngine v before Encrypt key nonce size initial) between
     → step (runFrom (begunEngine v before Encrypt key nonce size initial) between) (Call.end out) .outcome ≡ Outcome.ok n
     → outputs (run v before) (Call.start Encrypt key nonce size initial ∷ (between ++ (Call.end out ∷ [])))
     ≡ seal (paramsOf v) key nonce (initial ++ takenHeader (begunEngine v before Encrypt key nonce size initial) between)
@@ -506,7 +506,7 @@ sealed-unrefused v before key nonce size initial between out k n taken b o =
 pub opened-unrefused : (v : SparkleVariant) (before : List Call) (key nonce : List ℕ) (size : ℕ) (initial : List ℕ)
     (between : List Call) (out : List ℕ)
     (k n : ℕ) → step (run v before) (Call.start Decrypt key nonce size initial) .outcome ≡ Outcome.ok k
-    → Betweens (begunEngine v before Decrypt key nonce size initial) between
+    → AllBetween (begunEngine v before Decrypt key nonce size initial) between
     → step (runFrom (begunEngine v before Decrypt key nonce size initial) between) (Call.end out) .outcome ≡ Outcome.ok n
     → OpenedUnrefused v key nonce (initial ++ takenHeader (begunEngine v before Decrypt key nonce size initial) between)
     (takenData (begunEngine v before Decrypt key nonce size initial) between)
@@ -526,10 +526,10 @@ opened-unrefused v before key nonce size initial between out k n taken b o =
 pub returned-unrefused : (v : SparkleVariant) (before after : List Call) (key nonce : List ℕ)
     (size size' : ℕ) (initial initial' : List ℕ) (between between' : List Call) (out out' : List ℕ) (k k' n n' : ℕ)
     → step (run v before) (Call.start Encrypt key nonce size initial) .outcome ≡ Outcome.ok k
-    → Betweens (begunEngine v before Encrypt key nonce size initial) between
+    → AllBetween (begunEngine v before Encrypt key nonce size initial) between
     → step (runFrom (begunEngine v before Encrypt key nonce size initial) between) (Call.end out) .outcome ≡ Outcome.ok n
     → step (run v after) (Call.start Decrypt key nonce size' initial') .outcome ≡ Outcome.ok k'
-    → Betweens (begunEngine v after Decrypt key nonce size' initial') between'
+    → AllBetween (begunEngine v after Decrypt key nonce size' initial') between'
     → step (runFrom (begunEngine v after Decrypt key nonce size' initial') between') (Call.end out') .outcome ≡ Outcome.ok n'
     → initial' ++ takenHeader (begunEngine v after Decrypt key nonce size' initial') between'
     ≡ initial ++ takenHeader (begunEngine v before Encrypt key nonce size initial) between

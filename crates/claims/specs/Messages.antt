@@ -64,13 +64,13 @@ dataOf (Call.update n) = []
 dataOf (Call.output n) = []
 
 -- What the header calls and the data calls of a list bring.
-abbrev pub headers : List Call → List ℕ
-headers [] = []
-headers (c ∷ calls) = headerIn c ++ headers calls
+abbrev pub headerBytes : List Call → List ℕ
+headerBytes [] = []
+headerBytes (c ∷ calls) = headerIn c ++ headerBytes calls
 
-abbrev pub datas : List Call → List ℕ
-datas [] = []
-datas (c ∷ calls) = dataOf c ++ datas calls
+abbrev pub dataBytes : List Call → List ℕ
+dataBytes [] = []
+dataBytes (c ∷ calls) = dataOf c ++ dataBytes calls
 
 -- Header calls and data calls, with queries and mac between them.
 abbrev pub HeaderCall : Call → Type 0
@@ -185,9 +185,9 @@ Between e Call.tag = Unit {0}
 Between e (Call.update n) = Unit {0}
 Between e (Call.output n) = Unit {0}
 
-abbrev pub Betweens : SparkleEngine → List Call → Type 0
-Betweens e [] = Unit {0}
-Betweens e (c ∷ calls) = Between e c × Betweens (step e c .engine) calls
+abbrev pub AllBetween : SparkleEngine → List Call → Type 0
+AllBetween e [] = Unit {0}
+AllBetween e (c ∷ calls) = Between e c × AllBetween (step e c .engine) calls
 
 -- What of a list's header calls and data calls was taken: the inputs of those that were not refused.
 abbrev pub ifOk : Outcome → List ℕ → List ℕ
