@@ -19,7 +19,7 @@ use Rattle.tc_sparkle_aead.specs.declared.engine.Mac.{Mac}
 use Rattle.tc_sparkle_aead.specs.declared.engine.SparkleEngine.{SparkleEngine}
 use Rattle.tc_sparkle_aead.specs.Variant.{paramsOf}
 use Rattle.tc_sparkle_aead.specs.Refusals.{refusal}
-use Rattle.tc_sparkle_aead.specs.Checks.{opening, dataCheck, endCheck}
+use Rattle.tc_sparkle_aead.specs.Checks.{opens, opening, dataCheck, endCheck}
 use Rattle.tc_sparkle_aead.specs.Engine.{zeros, noMac}
 use Rattle.tc_sparkle_aead.specs.Calls.{beginData, written, dataBy, dataOutBy, dataAnswer, processBytes, processBytesOut, sealLast, sealTag, openBlock, openLast, receivedTag, openTag, sealEnd, openEndBy, openEnd, openEndOutBy, finalBy, finalOutBy, finalAnswer, doFinal, doFinalOut, readable, macOf, stepsNow}
 use Rattle.tc_sparkle_aead.proofs.VariantLaws.{sizes}
@@ -194,16 +194,28 @@ module _ (v : SparkleVariant) (r : Reader) (mac : Mac) (c : ℕ) (f : r .loaded 
   unfolding step doFinal doFinalOut
   step-is = ap leftBy (final-answer v r mac c (length out) ∙ passed)
 
+  -- what the checks tell, the direction, and the engine in which the data begins
+  good : EndPassed (paramsOf v) (r .phase) (heldOf (paramsOf v) r) (length out) n
+  good = end-good (paramsOf v) (r .phase) (heldOf (paramsOf v) r) (length out) n passed
+
+  module _ {d : Direction} (t : Takes d (r .phase)) where
+    direction : opening (engineOf v r mac c .current .phase) ≡ opens d
+    direction = is-open v (r .loaded) (r .key) (r .nonce) (r .initial) f (r .header) (r .body) mac c t st out n good
+
+    begins : beginData (engineOf v r mac c) ≡ inData v (r .loaded) (r .key) (r .nonce) (r .initial) d (r .header) (r .body)
+    begins = begun-data v (r .loaded) (r .key) (r .nonce) (r .initial) f t (r .header) (r .body) mac c st
+
+    was-loaded : r .loaded ≡ true
+    was-loaded = takes-loaded v (r .loaded) (r .key) (r .nonce) (r .initial) f t (r .header) (r .body) mac c st
+
+  enough : Takes Decrypt (r .phase) → paramsOf v .key ≤ length (r .body)
+  enough t = takes-enough (paramsOf v) (sizes v) t (r .key) (r .nonce) (r .header) (r .body) (length out) n passed
+
   seal-step : Takes Encrypt (r .phase) → SealEnd v r out n (step (engineOf v r mac c) (Call.end out))
   seal-step t =
       subst (SealEnd v r out n) (sym step-is)
       (sealed-end v (r .loaded) (r .key) (r .nonce) (r .initial) (r .header) (r .body) mac c f out n t st
-      (opening (engineOf v r mac c .current .phase))
-      (is-open v (r .loaded) (r .key) (r .nonce) (r .initial) f (r .header) (r .body) mac c t st out n
-      (end-good (paramsOf v) (r .phase) (heldOf (paramsOf v) r) (length out) n passed))
-      (beginData (engineOf v r mac c))
-      (begun-data v (r .loaded) (r .key) (r .nonce) (r .initial) f t (r .header) (r .body) mac c st)
-      (end-good (paramsOf v) (r .phase) (heldOf (paramsOf v) r) (length out) n passed))
+      (opening (engineOf v r mac c .current .phase)) (direction t) (beginData (engineOf v r mac c)) (begins t) good)
 
   open-step : Takes Decrypt (r .phase)
       → OpenEnd v r out n (verified (paramsOf v) (r .key) (r .nonce) (r .header) (r .body))
@@ -211,46 +223,32 @@ module _ (v : SparkleVariant) (r : Reader) (mac : Mac) (c : ℕ) (f : r .loaded 
   open-step t =
       subst (OpenEnd v r out n (verified (paramsOf v) (r .key) (r .nonce) (r .header) (r .body))) (sym step-is)
       (opened-end v (r .loaded) (r .key) (r .nonce) (r .initial) (r .header) (r .body) mac c f out n t st
-      (opening (engineOf v r mac c .current .phase))
-      (is-open v (r .loaded) (r .key) (r .nonce) (r .initial) f (r .header) (r .body) mac c t st out n
-      (end-good (paramsOf v) (r .phase) (heldOf (paramsOf v) r) (length out) n passed))
-      (beginData (engineOf v r mac c))
-      (begun-data v (r .loaded) (r .key) (r .nonce) (r .initial) f t (r .header) (r .body) mac c st)
-      (takes-enough (paramsOf v) (sizes v) t (r .key) (r .nonce) (r .header) (r .body) (length out) n passed)
-      (end-good (paramsOf v) (r .phase) (heldOf (paramsOf v) r) (length out) n passed))
+      (opening (engineOf v r mac c .current .phase)) (direction t) (beginData (engineOf v r mac c)) (begins t) (enough t) good)
 
   -- the engine afterwards
-  module _ (o : EndPassed (paramsOf v) (r .phase) (heldOf (paramsOf v) r) (length out) n) where
-    seal-engine-step : Takes Encrypt (r .phase)
-        → step (engineOf v r mac c) (Call.end out) .engine
-        ≡ engineOf v (inPhase r (Final Encrypt) (r .header) (r .body))
-        (readable (tag (paramsOf v) (r .key) (r .nonce) (r .header) (r .body)))
-        (steps (paramsOf v) (length (r .header)) (length (r .body)) % 2 ^ 64)
-    seal-engine-step t =
-        let e = beginData (engineOf v r mac c) in
-        let l = takes-loaded v (r .loaded) (r .key) (r .nonce) (r .initial) f t (r .header) (r .body) mac c st in
-        ap (λ (x : Left). x .engine) step-is
-        ∙ ap (λ (b : Bool). cond b (openEnd e n) (sealEnd e n) .engine)
-        (is-open v (r .loaded) (r .key) (r .nonce) (r .initial) f (r .header) (r .body) mac c t st out n o)
-        ∙ ap (λ (y : SparkleEngine). sealEnd y n .engine) (begun-data v (r .loaded) (r .key) (r .nonce) (r .initial) f t
-        (r .header) (r .body) mac c st)
-        ∙ seal-engine v (r .loaded) (r .key) (r .nonce) (r .initial) f l (r .header) (r .body) n
+  seal-engine-step : Takes Encrypt (r .phase)
+      → step (engineOf v r mac c) (Call.end out) .engine
+      ≡ engineOf v (inPhase r (Final Encrypt) (r .header) (r .body))
+      (readable (tag (paramsOf v) (r .key) (r .nonce) (r .header) (r .body)))
+      (steps (paramsOf v) (length (r .header)) (length (r .body)) % 2 ^ 64)
+  seal-engine-step t =
+      let e = beginData (engineOf v r mac c) in
+      ap (λ (x : Left). x .engine) step-is
+      ∙ ap (λ (b : Bool). cond b (openEnd e n) (sealEnd e n) .engine) (direction t)
+      ∙ ap (λ (y : SparkleEngine). sealEnd y n .engine) (begins t)
+      ∙ seal-engine v (r .loaded) (r .key) (r .nonce) (r .initial) f (was-loaded t) (r .header) (r .body) n
 
-    open-engine-step : Takes Decrypt (r .phase)
-        → step (engineOf v r mac c) (Call.end out) .engine
-        ≡ engineOf v (inPhase r (Final Decrypt) (r .header) (r .body))
-        (openedMac (paramsOf v) (r .key) (r .nonce) (r .header) (r .body))
-        (steps (paramsOf v) (length (r .header)) (length (r .body) - paramsOf v .key) % 2 ^ 64)
-    open-engine-step t =
-        let e = beginData (engineOf v r mac c) in
-        let l = takes-loaded v (r .loaded) (r .key) (r .nonce) (r .initial) f t (r .header) (r .body) mac c st in
-        ap (λ (x : Left). x .engine) step-is
-        ∙ ap (λ (b : Bool). cond b (openEnd e n) (sealEnd e n) .engine)
-        (is-open v (r .loaded) (r .key) (r .nonce) (r .initial) f (r .header) (r .body) mac c t st out n o)
-        ∙ ap (λ (y : SparkleEngine). openEnd y n .engine) (begun-data v (r .loaded) (r .key) (r .nonce) (r .initial) f t
-        (r .header) (r .body) mac c st)
-        ∙ open-engine v (r .loaded) (r .key) (r .nonce) (r .initial) f l (r .header) (r .body)
-        (takes-enough (paramsOf v) (sizes v) t (r .key) (r .nonce) (r .header) (r .body) (length out) n passed) n
+  open-engine-step : Takes Decrypt (r .phase)
+      → step (engineOf v r mac c) (Call.end out) .engine
+      ≡ engineOf v (inPhase r (Final Decrypt) (r .header) (r .body))
+      (openedMac (paramsOf v) (r .key) (r .nonce) (r .header) (r .body))
+      (steps (paramsOf v) (length (r .header)) (length (r .body) - paramsOf v .key) % 2 ^ 64)
+  open-engine-step t =
+      let e = beginData (engineOf v r mac c) in
+      ap (λ (x : Left). x .engine) step-is
+      ∙ ap (λ (b : Bool). cond b (openEnd e n) (sealEnd e n) .engine) (direction t)
+      ∙ ap (λ (y : SparkleEngine). openEnd y n .engine) (begins t)
+      ∙ open-engine v (r .loaded) (r .key) (r .nonce) (r .initial) f (was-loaded t) (r .header) (r .body) (enough t) n
 
 mac-shown : (good : Bool) (t : List ℕ) (e : SparkleEngine) → e .mac ≡ cond good (readable t) noMac → macOf e
     ≡ cond good (readable t) noMac
@@ -349,15 +347,12 @@ end-ended v e r w out n passed =
     good : Bool
     good = cond (opening (r .phase)) (verified (paramsOf v) (r .key) (r .nonce) (r .header) (r .body)) true
 
-    o : EndPassed (paramsOf v) (r .phase) (heldOf (paramsOf v) r) (length out) n
-    o = end-good (paramsOf v) (r .phase) (heldOf (paramsOf v) r) (length out) n passed
-
     by : (d : Direction) → Takes d (r .phase)
         → Ended v r good (step (engineOf v r (w .mac) (w .count)) (Call.end out) .engine)
     by Encrypt t =
         ended-sealing v r _ (takes-opening t) (seal-engine-step v r (w .mac) (w .count) (w .fits)
-        (w .standing) out n passed o t)
+        (w .standing) out n passed t)
     by Decrypt t =
         ended-opening v r _ (takes-opening t)
         (takes-enough (paramsOf v) (sizes v) t (r .key) (r .nonce) (r .header) (r .body) (length out) n passed)
-        (open-engine-step v r (w .mac) (w .count) (w .fits) (w .standing) out n passed o t)
+        (open-engine-step v r (w .mac) (w .count) (w .fits) (w .standing) out n passed t)
