@@ -403,6 +403,17 @@ ended-bytes : (a b out : List ℕ) (n : ℕ) (l : Left) → l .outcome ≡ Outco
 unfolding wrote
 ended-bytes a b out n l o q = q .bytes ∙ ap (λ (x : Outcome). a ++ take (countOf x) (l .buffer)) (sym o)
 
+-- an end that is taken has passed its checks
+end-checked : (v : SparkleVariant) (e : SparkleEngine) (r : Reader) → Follows v e r → (out : List ℕ) (n : ℕ)
+    → step e (Call.end out) .outcome ≡ Outcome.ok n
+    → (m : ℕ) × (endCheck (paramsOf v) (r .phase) (heldOf (paramsOf v) r) (length out) ≡ Ok m)
+end-checked v e r w out n o = by (endCheck (paramsOf v) (r .phase) (heldOf (paramsOf v) r) (length out)) refl
+  where
+    by : (x : AeadResult) → endCheck (paramsOf v) (r .phase) (heldOf (paramsOf v) r) (length out) ≡ x
+        → (m : ℕ) × (endCheck (paramsOf v) (r .phase) (heldOf (paramsOf v) r) (length out) ≡ Ok m)
+    by (Ok m) q = (m, q)
+    by (Err x) q = absurd (let s = sym o ∙ end-refused v e r w out x q in let z : _≡_ {A = ℕ} 0 1 = cc in omega arith)
+
 -- A sealing: after any list of calls, a start that is taken, any calls between, and an end that is taken, the bytes
 -- written are the specification's packet for the header and the data that were taken.
 pub sealed-taken : (v : SparkleVariant) (before : List Call) (key nonce : List ℕ) (size : ℕ) (initial : List ℕ)
@@ -416,28 +427,13 @@ pub sealed-taken : (v : SparkleVariant) (before : List Call) (key nonce : List �
 sealed-taken v before key nonce size initial between out k n taken b o =
     let p = paramsOf v in
     let r = lastReader v Encrypt key nonce initial between in
-    by (endCheck p (r .phase) (heldOf p r) (length out)) refl
-  where
-    by : (x : AeadResult)
-        → endCheck (paramsOf v) (lastReader v Encrypt key nonce initial between .phase)
-        (heldOf (paramsOf v) (lastReader v Encrypt key nonce initial between)) (length out) ≡ x
-        → outputs (run v before) (Call.start Encrypt key nonce size initial ∷ (between ++ (Call.end out ∷ [])))
-        ≡ seal (paramsOf v) key nonce (lastReader v Encrypt key nonce initial between .header)
-        (lastReader v Encrypt key nonce initial between .body)
-    by (Err x) q =
-        absurd
-        (let w = last-follows v before Encrypt key nonce size initial between out k taken b in
-        let s = sym o ∙ end-refused v _ _ w out x q in
-        let z : _≡_ {A = ℕ} 0 1 = cc in omega arith)
-    by (Ok m) q =
-        let p = paramsOf v in
-        let r = lastReader v Encrypt key nonce initial between in
-        let w = last-follows v before Encrypt key nonce size initial between out k taken b in
-        let g = last-going v before Encrypt key nonce size initial between out k taken b in
-        let s = seal-end v _ r w out m q (takes-opening (g .takes)) in
-        whole-outputs v before Encrypt key nonce size initial between out k taken b
-        ∙ sym (ended-bytes _ _ out m _ (s .outcome-is) (s .bytes-are))
-        ∙ ap₂ (λ (x y : List ℕ). seal p x y (r .header) (r .body)) (g .key-is) (g .nonce-is)
+    let w = last-follows v before Encrypt key nonce size initial between out k taken b in
+    let g = last-going v before Encrypt key nonce size initial between out k taken b in
+    let c = end-checked v _ r w out n o in
+    let s = seal-end v _ r w out (c .0) (c .1) (takes-opening (g .takes)) in
+    whole-outputs v before Encrypt key nonce size initial between out k taken b
+    ∙ sym (ended-bytes _ _ out (c .0) _ (s .outcome-is) (s .bytes-are))
+    ∙ ap₂ (λ (x y : List ℕ). seal p x y (r .header) (r .body)) (g .key-is) (g .nonce-is)
 
 -- An opening: the end is taken only where the packet that was taken is verified, and then the bytes written are what its
 -- body decrypts to.
@@ -459,33 +455,19 @@ pub opened-taken : (v : SparkleVariant) (before : List Call) (key nonce : List �
 opened-taken v before key nonce size initial between out k n taken b o =
     let p = paramsOf v in
     let r = lastReader v Decrypt key nonce initial between in
-    by (endCheck p (r .phase) (heldOf p r) (length out)) refl
-  where
-    by : (x : AeadResult)
-        → endCheck (paramsOf v) (lastReader v Decrypt key nonce initial between .phase)
-        (heldOf (paramsOf v) (lastReader v Decrypt key nonce initial between)) (length out) ≡ x
-        → OpenedTaken v key nonce (lastReader v Decrypt key nonce initial between)
-        (outputs (run v before) (Call.start Decrypt key nonce size initial ∷ (between ++ (Call.end out ∷ []))))
-    by (Err x) q =
-        absurd
-        (let w = last-follows v before Decrypt key nonce size initial between out k taken b in
-        let s = sym o ∙ end-refused v _ _ w out x q in
-        let z : _≡_ {A = ℕ} 0 1 = cc in omega arith)
-    by (Ok m) q =
-        let p = paramsOf v in
-        let r = lastReader v Decrypt key nonce initial between in
-        let w = last-follows v before Decrypt key nonce size initial between out k taken b in
-        let g = last-going v before Decrypt key nonce size initial between out k taken b in
-        let s = open-end v _ r w out m q (takes-opening (g .takes)) in
-        let good = cond-ok (verified p (r .key) (r .nonce) (r .header) (r .body)) m n (sym (s .outcome-is) ∙ o) in
-        let oks = s .outcome-is ∙ ap (λ (x : Bool). cond x (Outcome.ok m) (Outcome.no (6 ∷ []))) good in
-        record {
-          verifies = sym (ap₂ (λ (x y : List ℕ). verified p x y (r .header) (r .body)) (g .key-is) (g .nonce-is)) ∙ good;
-          bytes-are =
-              whole-outputs v before Decrypt key nonce size initial between out k taken b
-              ∙ sym (ended-bytes _ _ out m _ oks (s .good-bytes good))
-              ∙ ap₂ (λ (x y : List ℕ). decrypt p x y (r .header) (bodyOf p (r .body))) (g .key-is) (g .nonce-is);
-        }
+    let w = last-follows v before Decrypt key nonce size initial between out k taken b in
+    let g = last-going v before Decrypt key nonce size initial between out k taken b in
+    let c = end-checked v _ r w out n o in
+    let s = open-end v _ r w out (c .0) (c .1) (takes-opening (g .takes)) in
+    let good = cond-ok (verified p (r .key) (r .nonce) (r .header) (r .body)) (c .0) n (sym (s .outcome-is) ∙ o) in
+    let oks = s .outcome-is ∙ ap (λ (x : Bool). cond x (Outcome.ok (c .0)) (Outcome.no (6 ∷ []))) good in
+    record {
+      verifies = sym (ap₂ (λ (x y : List ℕ). verified p x y (r .header) (r .body)) (g .key-is) (g .nonce-is)) ∙ good;
+      bytes-are =
+          whole-outputs v before Decrypt key nonce size initial between out k taken b
+          ∙ sym (ended-bytes _ _ out (c .0) _ oks (s .good-bytes good))
+          ∙ ap₂ (λ (x y : List ℕ). decrypt p x y (r .header) (bodyOf p (r .body))) (g .key-is) (g .nonce-is);
+    }
 
 -- The same in what the calls' own outcomes say was taken: however header and data are cut, the calls that are not refused
 -- seal to what the specification gives.
