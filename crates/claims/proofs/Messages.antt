@@ -15,7 +15,7 @@ use Rattle.tc_sparkle_aead.specs.declared.variant.SparkleVariant.{SparkleVarian
 use Rattle.tc_sparkle_aead.specs.declared.phase.Direction.{Direction}
 use Rattle.tc_sparkle_aead.specs.declared.phase.Direction.the-variants.{Encrypt, Decrypt}
 use Rattle.tc_sparkle_aead.specs.declared.phase.Phase.{Phase}
-use Rattle.tc_sparkle_aead.specs.declared.phase.Phase.the-variants.{Uninitialized, Init, Aad, Data, Final}
+use Rattle.tc_sparkle_aead.specs.declared.phase.Phase.the-variants.{Init, Aad}
 use Rattle.tc_sparkle_aead.specs.declared.aead_error.AeadResult.{AeadResult}
 use Rattle.tc_sparkle_aead.specs.declared.aead_error.AeadResult.the-variants.{Ok, Err}
 use Rattle.tc_sparkle_aead.specs.declared.aead_init_error.AeadInitError.the-variants.{NonceReuse}

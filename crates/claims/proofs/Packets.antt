@@ -6,7 +6,7 @@ use Prim.Native.Nat.{ℕ, _+_, _-_, _*_, _≤_, _<_}
 use native.Mathlib.Omega.{arith}
 use borrow.Author.Tests.{lt-ltb}
 use lib.ListN.{length, take, drop}
-use lib.Seq.{length-take-le, drop-drop, drop-nil, take-nil}
+use lib.Seq.{length-take-le, drop-drop, drop-nil}
 use Rattle.schwaemm.specs.Bytes.{ifEmpty}
 use Rattle.schwaemm.specs.Blocks.{ready, after, given, held}
 use Rattle.schwaemm.specs.Schwaemm.{Params, mixLast, leading, messageBlock, beforeLast, lastBlock, message, body, received, stepsOf}

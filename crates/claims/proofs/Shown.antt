@@ -16,16 +16,15 @@ use Rattle.tc_sparkle_aead.specs.declared.aead_init_error.AeadInitResult.the-va
 use Rattle.tc_sparkle_aead.specs.declared.engine.Mac.{Mac}
 use Rattle.tc_sparkle_aead.specs.declared.engine.SparkleEngine.{SparkleEngine}
 use Rattle.tc_sparkle_aead.specs.Variant.{paramsOf}
-use Rattle.tc_sparkle_aead.specs.Checks.{opening, aadCheck, dataCheck, endCheck, startCheck}
+use Rattle.tc_sparkle_aead.specs.Checks.{opening, aadCheck, endCheck, startCheck}
 use Rattle.tc_sparkle_aead.specs.Engine.{noMac, newEngine, repeats}
 use Rattle.tc_sparkle_aead.specs.Calls.{atPoint, refused, started, initBy, init, aadIn, aadBy, processAadBytes, beginBy, beginData}
 use Rattle.tc_sparkle_aead.specs.Calls.{dataIn, dataBy, dataAnswer, processBytes, readable, finalBy, finalAnswer, doFinal, macOf}
 use Rattle.tc_sparkle_aead.specs.Calls.{reset as resetEngine}
 use Rattle.claims.specs.Call.{Call, step, Line, line, lines, sheet}
-use Rattle.claims.specs.Call.Outcome.{ok}
 use Rattle.claims.specs.Reader.{Reader, newReader, heldOf, read}
 use Rattle.claims.specs.Messages.{shownByEnd, shownAfter, shownTags}
-use Rattle.claims.specs.Machine.{engine, after, linesOf, sheetOf}
+use Rattle.claims.specs.Machine.{engine, sheetOf}
 use Rattle.claims.proofs.Kept.{Follows, engineOf, follows-new}
 use Rattle.claims.proofs.Follows.{follows-step, final-answer}
 use Rattle.claims.proofs.Written.{end-ended}

@@ -6,11 +6,11 @@ use Prim.Native.Nat.{ℕ, zero, suc, _+_, _*_, _/_, _%_, _^_, _<_}
 use native.Mathlib.Nat.{mod-lt, zero-div}
 use native.Mathlib.Omega.{arith}
 use lib.Dec.{lit<}
-use lib.Bits.{bitXor, xor-lt, xor-shr, xor-mod}
-use lib.ListN.{length, take, drop, getD, replicate}
+use lib.Bits.{bitXor, xor-shr, xor-mod}
+use lib.ListN.{length, take, drop, getD}
 use lib.Seq.{take-nil, drop-nil}
 use Rattle.sparkle.specs.Sparkle.{xors}
-use Rattle.sparkle.proofs.Below.{Words, Bytes, below-at, below-append, below-take, below-drop, below-xors, below-replicate}
+use Rattle.sparkle.proofs.Below.{Words, Bytes, below-xors}
 use Rattle.sparkle.proofs.Below.Below.{none, more}
 use Rattle.schwaemm.specs.Bytes.{toWords, toBytes}
 

@@ -6,11 +6,11 @@ use native.Mathlib.Nat.{mod-lt, mod-eq-of-lt}
 use native.Mathlib.Omega.{arith}
 use lib.Dec.{lit<, lit≤}
 use lib.Bits.{bitXor, xor-lt}
-use lib.ListN.{length, take, drop, getD, set, replicate, drop-of-length-le}
+use lib.ListN.{length, take, drop, replicate, drop-of-length-le}
 use lib.Seq.{take-append-le, take-all, length-take-le}
 use Rattle.sparkle.specs.Words.{addw, rotr, ell}
 use Rattle.sparkle.specs.declared.scalar.Branch.{Branch}
-use Rattle.sparkle.specs.Sparkle.{rcon, quarter, arxBox, constants, boxes, xorXs, xorYs, xors, xorEach, feistel, linear, step, run, state, sparkle, sparkleIn}
+use Rattle.sparkle.specs.Sparkle.{rcon, quarter, arxBox, constants, boxes, xorXs, xorYs, xorEach, feistel, linear, step, run, state, sparkle, sparkleIn}
 use Rattle.sparkle.proofs.Rotate.{rotr-lt}
 use Rattle.sparkle.proofs.Below.{Words, below-at, below-append, below-take, below-drop, below-set, below-xors}
 use Rattle.sparkle.proofs.Below.Below.{none, more}
