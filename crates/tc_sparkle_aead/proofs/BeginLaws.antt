@@ -111,7 +111,7 @@ module _ (e : SparkleEngine) where
         steps = y .steps;
       }) (begin-at phase x (finalPoint d) n)
 
-  -- its variant, its point and its key
+  -- its point, its variant, and both with its pair
   pub begin-current : (phase : Phase) → beginBy phase e .current ≡ begun (paramsOf (e .variant)) phase (e .current)
   unfolding atPoint
   begin-current Uninitialized = refl
