@@ -11,6 +11,7 @@
 
 pub mod exhaustive;
 pub mod one_shot;
+pub mod tally;
 pub mod walks;
 
 use std::fmt::Write;

@@ -34,6 +34,7 @@ fn places(list: &List) -> Vec<usize> {
     for answer in host::Answers(&answers) {
         places.push(places[places.len() - 1] + host::ANSWER_HEAD + answer.bytes.len());
     }
+    assert_eq!(places.len(), list.calls.len() + 1);
     places
 }
 

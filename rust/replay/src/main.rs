@@ -6,56 +6,38 @@
 
 use std::io::Write;
 
+use replay::calls::VARIANTS;
+use replay::counts::Counts;
 use replay::file::file;
-use replay::recorder::{Contents, Counts, Recorder};
+use replay::recorder::{Contents, List, Recorder};
 use replay::scenes;
 
-/// The names of the phases with their directions, in `places`' order.
-const PLACES: [&str; 9] = [
-    "Uninitialized",
-    "Init sealing",
-    "Init opening",
-    "Aad sealing",
-    "Aad opening",
-    "Data sealing",
-    "Data opening",
-    "Final sealing",
-    "Final opening",
-];
-
-fn record() -> Recorder {
+fn record() -> Vec<List> {
     let mut r = Recorder::new(0x5343_4857_4145_4d4d, Contents::OneByte);
     scenes::all(&mut r);
     scenes::known_answers(&mut r);
-    r
+    r.take()
 }
 
-/// The sums over the variants, each of which has to be there in every variant.
-fn sums<const N: usize>(by_variant: [[usize; N]; 4]) -> [usize; N] {
-    assert!(by_variant.iter().flatten().all(|n| *n > 0));
-    std::array::from_fn(|i| by_variant.iter().map(|numbers| numbers[i]).sum())
-}
-
-/// Says what the lists hold, and stops where a variant lacks an answer, or a
-/// call in a phase and direction.
-fn say(counts: &Counts) {
-    eprintln!("lists {} calls {}", counts.lists, counts.calls);
-    eprintln!("answers 0 (ok) to 11: {:?}", sums(counts.codes));
-    let [ends, panics] = counts.by_document;
-    eprintln!("ends in opening Aad, by document 01: {ends}; the Rust panics at {panics} of them");
-    eprintln!("calls by kind 1 to 8, in");
-    for (i, name) in PLACES.iter().enumerate() {
-        eprintln!(
-            "  {name}: {:?}",
-            sums(counts.places.map(|places| places[i]))
-        );
+/// What the lists hold.
+///
+/// # Panics
+///
+/// Where a variant lacks an answer, or a call in a phase and direction.
+fn count(lists: &[List]) -> Counts {
+    let mut counts = Counts::default();
+    lists.iter().for_each(|list| counts.add(list));
+    for variant in VARIANTS {
+        let missing = counts.missing(variant);
+        assert!(missing.is_empty(), "{variant} never has {missing:?}");
     }
+    counts
 }
 
 fn main() -> std::io::Result<()> {
-    let mut r = record();
-    say(&r.counts);
-    let file = file(&r.take());
+    let lists = record();
+    eprint!("{}", count(&lists));
+    let file = file(&lists);
     match std::env::args_os().nth(1) {
         Some(path) => std::fs::write(path, file),
         None => std::io::stdout().write_all(&file),
@@ -71,6 +53,13 @@ mod tests {
             env!("CARGO_MANIFEST_DIR"),
             "/../../crates/replay/data/lists"
         );
-        assert!(std::fs::read(path).unwrap() == super::file(&super::record().take()));
+        assert!(std::fs::read(path).unwrap() == super::file(&super::record()));
+    }
+
+    /// Every variant has every answer, and every call in every phase and
+    /// direction.
+    #[test]
+    fn nothing_is_missing() {
+        super::count(&super::record());
     }
 }

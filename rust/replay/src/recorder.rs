@@ -5,7 +5,7 @@
 use tc_aead_cipher::AeadCipher;
 use tc_sparkle_aead::{SparkleEngine, SparkleVariant};
 
-use crate::calls::{Answer, Call, PANICKED, Start, VARIANTS, ask, no, variant_number};
+use crate::calls::{Answer, Call, PANICKED, Start, VARIANTS, ask, no};
 use crate::random::Random;
 
 /// A message's phase, without its direction.
@@ -30,6 +30,9 @@ pub enum Contents {
 /// A call and all that came of it.
 pub struct Played {
     pub call: Call,
+    /// The phase with its direction before the call, a place in
+    /// `counts::PLACES`.
+    pub place: usize,
     /// The answer that the port has to give.
     pub answer: Answer,
     /// The Rust's own answer: another one at a listed difference alone.
@@ -59,27 +62,10 @@ pub struct Recorder {
     pub start: Option<Start>,
     pub header: Vec<u8>,
     pub data: usize,
-    pub counts: Counts,
     engine: SparkleEngine,
     initial: Phase,
     ended: u64,
     lists: Vec<List>,
-}
-
-/// What all lists hold together.
-#[derive(Clone, Copy)]
-pub struct Counts {
-    pub lists: usize,
-    pub calls: usize,
-    /// How many calls answered each of document 01's numbers (0: ok), by
-    /// variant.
-    pub codes: [[usize; 12]; 4],
-    /// How many calls of each kind there are in each phase and direction, by
-    /// variant.
-    pub places: [[[usize; 8]; 9]; 4],
-    /// Ends in opening Aad, whose answers are document 01's, and how many of
-    /// them the Rust panicked at.
-    pub by_document: [usize; 2],
 }
 
 /// A variant's slim and big steps, which the Rust keeps to itself.
@@ -102,13 +88,6 @@ impl Recorder {
             start: None,
             header: Vec::new(),
             data: 0,
-            counts: Counts {
-                lists: 0,
-                calls: 0,
-                codes: [[0; 12]; 4],
-                places: [[[0; 8]; 9]; 4],
-                by_document: [0; 2],
-            },
             engine: SparkleEngine::new(VARIANTS[0]),
             initial: Phase::Uninitialized,
             ended: 0,
@@ -126,7 +105,6 @@ impl Recorder {
         self.start = None;
         self.header.clear();
         self.data = 0;
-        self.counts.lists += 1;
         self.lists.push(List {
             variant,
             calls: Vec::new(),
@@ -154,9 +132,10 @@ impl Recorder {
         } else {
             (original, output)
         };
-        self.count(&call, answer);
+        let place = self.place();
         self.follow(&call, answer);
         let played = Played {
+            place,
             answer,
             original,
             output,
@@ -186,8 +165,6 @@ impl Recorder {
             no(PANICKED, 0, 0)
         };
         assert_eq!(original, listed, "an end in opening Aad, {held} bytes held");
-        self.counts.by_document[0] += 1;
-        self.counts.by_document[1] += usize::from(original.code == PANICKED);
         self.engine = SparkleEngine::new(self.variant);
         for earlier in &self.lists.last().expect("a list has begun").calls {
             if earlier.answer == earlier.original {
@@ -197,26 +174,7 @@ impl Recorder {
         no(5, tag, 0)
     }
 
-    fn count(&mut self, call: &Call, answer: Answer) {
-        let variant = usize::from(variant_number(self.variant)) - 1;
-        let kind = match call {
-            Call::Init(_) => 0,
-            Call::Aad { .. } => 1,
-            Call::Data { .. } => 2,
-            Call::End { .. } => 3,
-            Call::Reset => 4,
-            Call::Mac => 5,
-            Call::UpdateOutputLen(_) => 6,
-            Call::OutputLen(_) => 7,
-        };
-        self.counts.calls += 1;
-        self.counts.places[variant][self.place()][kind] += 1;
-        if let Some(count) = self.counts.codes[variant].get_mut(usize::from(answer.code)) {
-            *count += 1;
-        }
-    }
-
-    /// Which of the nine phases with their directions this is.
+    /// Which of `counts::PLACES` the engine is in.
     fn place(&self) -> usize {
         match (self.phase, self.opening) {
             (Phase::Uninitialized, _) => 0,

@@ -108,6 +108,7 @@ fn threads() {
     let (key, nonce, header) = given(Variant::Schwaemm256_256);
     let message = message(5000);
     let one = seal(Variant::Schwaemm256_256, &key, &nonce, &header, &message);
+    assert!(one.is_ok());
     std::thread::scope(|scope| {
         for _ in 0..4 {
             scope.spawn(|| {
