@@ -1,8 +1,12 @@
-//! The known-answer files of the folder kat.
+//! The known-answer files of the folder kat: read, and made again from the Rust
+//! original.
 
+use std::fmt::Write;
 use std::path::Path;
 
 use tc_sparkle_aead::SparkleVariant;
+
+use crate::calls::{Start, sealed};
 
 /// One entry: what is sealed under which key and nonce, and what it becomes.
 pub struct Entry {
@@ -14,8 +18,11 @@ pub struct Entry {
     pub packet: Vec<u8>,
 }
 
-/// How many entries a file has.
-pub const ENTRIES: usize = 1089;
+/// The longest message and the longest header.
+const LONGEST: usize = 32;
+
+/// How many entries a file has: one for each length of message and header.
+pub const ENTRIES: usize = (LONGEST + 1) * (LONGEST + 1);
 
 /// The bytes of hexadecimal digits.
 fn bytes(digits: &str) -> Vec<u8> {
@@ -44,17 +51,68 @@ fn entry(text: &str) -> Entry {
     }
 }
 
+/// The text of a variant's file in the folder kat.
+fn read(variant: SparkleVariant) -> String {
+    let (key, nonce) = (8 * variant.key_bytes(), 8 * variant.nonce_bytes());
+    let path = Path::new(env!("CARGO_MANIFEST_DIR"))
+        .join(format!("../../kat/LWC_AEAD_KAT_{key}_{nonce}.txt"));
+    std::fs::read_to_string(&path).unwrap_or_else(|e| panic!("{}: {e}", path.display()))
+}
+
 /// The entries of a variant's file.
 ///
 /// # Panics
 ///
 /// Where the file is not there or is not a known-answer file of this variant.
 pub fn entries(variant: SparkleVariant) -> Vec<Entry> {
-    let (key, nonce) = (8 * variant.key_bytes(), 8 * variant.nonce_bytes());
-    let path = Path::new(env!("CARGO_MANIFEST_DIR"))
-        .join(format!("../../kat/LWC_AEAD_KAT_{key}_{nonce}.txt"));
-    let text = std::fs::read_to_string(&path).unwrap_or_else(|e| panic!("{}: {e}", path.display()));
+    let text = read(variant);
     let entries: Vec<Entry> = text.trim_end().split("\n\n").map(entry).collect();
     assert!(entries.iter().map(|entry| entry.count).eq(1..=ENTRIES));
     entries
+}
+
+/// Bytes in hexadecimal, as the files have them.
+fn digits(bytes: &[u8]) -> String {
+    bytes.iter().map(|byte| format!("{byte:02X}")).collect()
+}
+
+/// A variant's file by the rule of kat/README.md, with the packets that the
+/// Rust original seals.
+pub fn make(variant: SparkleVariant) -> String {
+    let run = |n: usize| -> Vec<u8> { (0..n as u8).collect() };
+    let mut text = String::new();
+    for count in 0..ENTRIES {
+        let message = run(count / (LONGEST + 1));
+        let start = Start {
+            opening: false,
+            key: run(variant.key_bytes()),
+            nonce: run(variant.nonce_bytes()),
+            size: variant.tag_bytes(),
+            header: run(count % (LONGEST + 1)),
+        };
+        let packet = sealed(variant, &start, &[], &message);
+        writeln!(text, "Count = {}", count + 1).unwrap();
+        for (name, bytes) in [
+            ("Key", &start.key),
+            ("Nonce", &start.nonce),
+            ("PT", &message),
+            ("AD", &start.header),
+            ("CT", &packet),
+        ] {
+            writeln!(text, "{name} = {}", digits(bytes)).unwrap();
+        }
+        text.push('\n');
+    }
+    text
+}
+
+#[cfg(test)]
+mod tests {
+    /// The files are, byte for byte, those that the Rust original gives.
+    #[test]
+    fn the_files_are_the_originals() {
+        for variant in crate::calls::VARIANTS {
+            assert!(super::make(variant) == super::read(variant), "{variant}");
+        }
+    }
 }
