@@ -11,9 +11,9 @@ use tc_sparkle_aead::phase::Direction;
 
 // What a call answered, whether the whole output is as expected, and the engine afterwards.
 pub struct Played {
-    pub answer: Reply,
-    pub output: bool,
-    pub engine: SparkleEngine,
+    pub(crate) answer: Reply,
+    pub(crate) output: bool,
+    pub(crate) engine: SparkleEngine,
 }
 
 fn count(n: usize) -> Reply {
@@ -102,14 +102,14 @@ fn tag_len(e: SparkleEngine) -> usize {
 }
 
 // Whether the tag that can be read is the expected one; an empty one: none can.
-pub fn same_tag(e: SparkleEngine, expected: &[u8]) -> bool {
+pub(crate) fn same_tag(e: SparkleEngine, expected: &[u8]) -> bool {
     let n = tag_len(e);
     let m = aead_cipher::mac(e);
     let bytes = m.bytes;
     record::same(record::first(&bytes, n), expected)
 }
 
-pub fn same_answer(a: Reply, h: Head) -> bool {
+pub(crate) fn same_answer(a: Reply, h: Head) -> bool {
     if a.number == h.code {
         if a.first == h.first {
             a.second == h.second
@@ -122,7 +122,7 @@ pub fn same_answer(a: Reply, h: Head) -> bool {
 }
 
 // The call of a record whose kind is known.
-pub fn play(
+pub(crate) fn play(
     e: SparkleEngine,
     h: Head,
     key: &[u8],

@@ -5,24 +5,24 @@ ghost use mathlib.Core.Path.{_≡_};
 ghost use Prim.Native.Nat.{_+_, _≤_};
 
 pub struct Head {
-    pub kind: u8,
+    pub(crate) kind: u8,
     // a list's variant, a start's direction
-    pub way: u8,
+    pub(crate) way: u8,
     // what the output holds before the call
-    pub fill: u8,
+    pub(crate) fill: u8,
     // the expected answer: 0, or document 01's number of the refusal
-    pub code: u8,
+    pub(crate) code: u8,
     // a start's tag size, a query's length
-    pub number: usize,
+    pub(crate) number: usize,
     // the expected count or values
-    pub first: usize,
-    pub second: usize,
+    pub(crate) first: usize,
+    pub(crate) second: usize,
     // how many bytes of each run follow
-    pub key: usize,
-    pub nonce: usize,
-    pub input: usize,
-    pub output: usize,
-    pub tag: usize,
+    pub(crate) key: usize,
+    pub(crate) nonce: usize,
+    pub(crate) input: usize,
+    pub(crate) output: usize,
+    pub(crate) tag: usize,
 }
 
 fn pair(low: u8, high: u8) -> usize {
@@ -55,7 +55,7 @@ fn long_at(h: &[u8; 38], at: usize) -> usize
     long(word_at(h, at), word_at(h, at + 4))
 }
 
-pub fn parse(h: &[u8; 38]) -> Head {
+pub(crate) fn parse(h: &[u8; 38]) -> Head {
     Head {
         kind: h[0],
         way: h[1],
@@ -73,7 +73,7 @@ pub fn parse(h: &[u8; 38]) -> Head {
 }
 
 // Whether a list's or a call's kind is known and its variant or direction is one.
-pub fn known(kind: u8, way: u8) -> bool {
+pub(crate) fn known(kind: u8, way: u8) -> bool {
     match kind {
         0 => match way {
             1..=4 => true,
@@ -86,7 +86,7 @@ pub fn known(kind: u8, way: u8) -> bool {
 }
 
 // Reads the next n bytes; false where the buffer has no room for them or the file has too few.
-pub fn read(fd: i32, buf: &mut [u8], n: usize) -> bool {
+pub(crate) fn read(fd: i32, buf: &mut [u8], n: usize) -> bool {
     if n <= buf.len() {
         let got = io::read_full(fd, &mut buf[0..n]);
         got == n
@@ -96,12 +96,12 @@ pub fn read(fd: i32, buf: &mut [u8], n: usize) -> bool {
 }
 
 // The first n bytes, or all where there are fewer.
-pub fn first<'a>(s: &'a [u8], n: usize) -> &'a [u8] {
+pub(crate) fn first<'a>(s: &'a [u8], n: usize) -> &'a [u8] {
     if n <= s.len() { &s[0..n] } else { s }
 }
 
 // Whether two slices hold the same bytes.
-pub fn same(a: &[u8], b: &[u8]) -> bool
+pub(crate) fn same(a: &[u8], b: &[u8]) -> bool
     ensures { λ r. ⌜ (r ≡ true → now (a .entry) ≡ now (b .entry)) ⌝ }
 {
     if a.len() != b.len() {

@@ -7,7 +7,7 @@ use tc_sparkle_aead::engine::Done;
 use tc_sparkle_aead::engine::Mac;
 use tc_sparkle_aead::engine::SparkleEngine;
 
-pub fn process_aad_bytes(e: SparkleEngine, input: &[u8]) -> Done
+pub(crate) fn process_aad_bytes(e: SparkleEngine, input: &[u8]) -> Done
     ensures { λ r. ⌜ r ≡ processAadBytes e (now (input .entry)) ⌝ }
 {
     let mut lent = e;
@@ -18,7 +18,7 @@ pub fn process_aad_bytes(e: SparkleEngine, input: &[u8]) -> Done
     }
 }
 
-pub fn process_bytes(e: SparkleEngine, input: &[u8], output: &mut [u8]) -> Done
+pub(crate) fn process_bytes(e: SparkleEngine, input: &[u8], output: &mut [u8]) -> Done
     ensures { λ r. ⌜ (r ≡ processBytes e (now (input .entry)) (now (output .entry)))
         × (now (output .exit) ≡ processBytesOut e (now (input .entry)) (now (output .entry))) ⌝ }
 {
@@ -30,7 +30,7 @@ pub fn process_bytes(e: SparkleEngine, input: &[u8], output: &mut [u8]) -> Done
     }
 }
 
-pub fn do_final(e: SparkleEngine, output: &mut [u8]) -> Done
+pub(crate) fn do_final(e: SparkleEngine, output: &mut [u8]) -> Done
     ensures { λ r. ⌜ (r ≡ doFinal e (now (output .entry)))
         × (now (output .exit) ≡ doFinalOut e (now (output .entry))) ⌝ }
 {
@@ -42,13 +42,13 @@ pub fn do_final(e: SparkleEngine, output: &mut [u8]) -> Done
     }
 }
 
-pub fn mac(e: SparkleEngine) -> Mac
+pub(crate) fn mac(e: SparkleEngine) -> Mac
     ensures { λ r. ⌜ r ≡ macOf e ⌝ }
 {
     aead_cipher::mac(&e)
 }
 
-pub fn steps(e: SparkleEngine) -> u64
+pub(crate) fn steps(e: SparkleEngine) -> u64
     ensures { λ r. ⌜ r ≡ stepsNow e ⌝ }
 {
     aead_cipher::steps(&e)
