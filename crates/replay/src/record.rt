@@ -1,8 +1,8 @@
 // A record of the file of call lists: its head of 38 bytes, and the runs of bytes after it. All
 // numbers are little-endian; rust/replay/src/file.rs has the layout.
-ghost use mathlib.Core.Bool.{true};
 ghost use mathlib.Core.Path.{_≡_};
 ghost use Prim.Native.Nat.{_+_, _≤_};
+ghost use Rattle.schwaemm.specs.Bytes.{same};
 
 pub struct Head {
     pub(crate) kind: u8,
@@ -102,7 +102,7 @@ pub(crate) fn first<'a>(s: &'a [u8], n: usize) -> &'a [u8] {
 
 // Whether two slices hold the same bytes.
 pub(crate) fn same(a: &[u8], b: &[u8]) -> bool
-    ensures { λ r. ⌜ (r ≡ true → now (a .entry) ≡ now (b .entry)) ⌝ }
+    ensures { λ r. ⌜ r ≡ same (now (a .entry)) (now (b .entry)) ⌝ }
 {
     if a.len() != b.len() {
         return false;
