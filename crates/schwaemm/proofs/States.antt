@@ -6,6 +6,7 @@ use mathlib.Core.Bool.{Bool, true, false, cond}
 use mathlib.Core.List.{List, [], _∷_, _++_, append-assoc}
 use Prim.Native.Nat.{ℕ, _+_, _-_, _*_, _/_, _^_, _≤_, _<_, min}
 use native.Mathlib.Omega.{arith}
+use borrow.Author.Tests.{lt-ltb, le-ltb}
 use lib.Dec.{ltb, lit<}
 use lib.Pow.{pow-lt, shl-lt}
 use lib.Bits.{bitXor, xor-lt}
@@ -142,6 +143,15 @@ module _ (p : Params) where
   pub length-withDomain : (v : ℕ) (s : List ℕ) → length (withDomain p v s) ≡ length s
   unfolding withDomain
   length-withDomain v s = simp length-set
+
+-- The v of a short and of a full block.
+pub lastV-short : (p : Params) (short : ℕ) (block : List ℕ) → length block < p .rate → short ≡ lastV p short block
+unfolding lastV
+lastV-short p short block h = rw (lt-ltb _ _ h) refl
+
+pub lastV-full : (p : Params) (short : ℕ) (block : List ℕ) → p .rate ≤ length block → short + 1 ≡ lastV p short block
+unfolding lastV
+lastV-full p short block h = rw (le-ltb _ _ h) refl
 
 -- The words that are handed to the permutation.
 lastV-bound : (p : Params) (short : ℕ) (block : List ℕ) → lastV p short block ≤ short + 1

@@ -4,7 +4,7 @@
 // The compiler makes SSE2 instructions of it. It does so only where no pair of shifts looks like a
 // rotation, for which SSE2 has no instruction: a rotation is taken up one shift after the other,
 // and the right shift is taken of `t`, which has the high bits of y and not its low ones.
-// docs/PERFORMANCE.md has the shapes that were tried, and the gate looks at the instructions.
+// docs/PERFORMANCE.md compares it with other shapes, and the gate looks at the instructions.
 ghost use mathlib.Core.Path.{_≡_};
 ghost use Prim.Native.Nat.{ℕ, _+_, _%_, _^_, _/_, _<_, _≤_};
 ghost use lib.Bits.{bitXor, bitAnd, bitOr};

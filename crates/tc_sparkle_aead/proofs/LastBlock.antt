@@ -3,7 +3,6 @@ use mathlib.Core.Path.{_≡_, refl, sym, ap, _∙_}
 use mathlib.Core.List.{List, _∷_, _++_, append-assoc}
 use Prim.Native.Nat.{ℕ, suc, _+_, _-_, _<_, _≤_}
 use native.Mathlib.Omega.{arith}
-use borrow.Author.Tests.{lt-ltb, le-ltb}
 use lib.ListN.{length, take, drop, getD, set, replicate, length-append, length-replicate, take-append-drop, replicate-append-replicate}
 use lib.Seq.{length-take-le, set-at, set-append-left, getD-take}
 use lib.Bits.{bitXor}
@@ -68,12 +67,3 @@ module _ (p : Params) (h : Sizes p) (f : Small p) where
         es,
         ev,
       )
-
--- the v of a short and of a full block
-pub lastV-short : (p : Params) (short : ℕ) (b : List ℕ) → length b < p .rate → short ≡ lastV p short b
-unfolding lastV
-lastV-short p short b h = rw (lt-ltb _ _ h) refl
-
-pub lastV-full : (p : Params) (short : ℕ) (b : List ℕ) → p .rate ≤ length b → short + 1 ≡ lastV p short b
-unfolding lastV
-lastV-full p short b h = rw (le-ltb _ _ h) refl

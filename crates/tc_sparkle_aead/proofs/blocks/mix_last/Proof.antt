@@ -3,7 +3,8 @@ use native.Mathlib.Omega.{arith}
 use lib.Seq.{length-take-le}
 use Rattle.tc_sparkle_aead.specs.Variant.{paramsOf}
 use Rattle.tc_sparkle_aead.proofs.VariantLaws.{sizes, small}
-use Rattle.tc_sparkle_aead.proofs.LastBlock.{put-mixLast, lastV-short, lastV-full}
+use Rattle.schwaemm.proofs.States.{lastV-short, lastV-full}
+use Rattle.tc_sparkle_aead.proofs.LastBlock.{put-mixLast}
 use borrow.Author.Needs.{needs}
 use Rattle.tc_sparkle_aead.proofs.blocks.mix_last.Statement.{statement}
 use Rattle.tc_sparkle_aead.proofs.blocks.mix_last.Tie as tie
