@@ -3,10 +3,14 @@ prover's log. For tools/bundle-edits, tools/check-edits and tools/try-edit.
 
 An edit is a file crates/CRATE/edits/NAME.edit in the form of `rt`: a line "file: PATH" holds for the pairs of
 lines "old: TEXT" and "new: TEXT" behind it, and each old text stands once in its file. A line
-"refused: PLACE PLACE .." names the places where its facts are looked at. A place is a function of the crate, as
-engine/open_end, or a law, as EndLaws:unopened: the file in proofs/ and the law's name.
+"refused: PLACE PLACE .." names the places where its fact is looked at. A place is a function of the crate, as
+engine/open_end, or a law, as EndLaws:unopened: the file in proofs/ and the law's name. Where it is a law, a line
+"fails: .." says a value at which the law is false under the edit. The last step of a function's proof is not looked
+at while a function below it is not proved: where the edit's error stands there, a line "apart: callees" keeps the
+edit out of bundles that reach one.
 """
 import glob
+import itertools
 import os
 import re
 
@@ -14,27 +18,28 @@ ROOT = os.path.join(os.path.dirname(os.path.abspath(__file__)), "..")
 
 # ---- a prover's log
 
-FOLLOWS = re.compile(r"was not admitted \(|has no `Need-")
-ERROR = re.compile(r"(?:^|/)proofs/(\S+?)\.antt:\d+:\d+: error: `([^`]*)`(.*)")
+ENTRY = re.compile(r"(?:\S*/)?proofs/(\S+?)\.antt:\d+:\d+: (error|note): ")
+FOLLOWS = re.compile(r"was not admitted \(|has no `Need-|has no field")
 UNPROVED = re.compile(r"^fn \w+::(\S+): no proof: .*`search` does not close")
 
 
 def places(log):
-    """The places of a log that have an error of their own, in their order. An error that only follows from
-    another one is none."""
-    found = []
-    for line in log.splitlines():
-        error, unproved = ERROR.search(line), UNPROVED.match(line)
-        if error and not FOLLOWS.search(error.group(3)):
-            file = error.group(1).removesuffix("/Proof")
-            own = file if error.group(1) != file else f"{file}:{error.group(2)}"
+    """The places of a log that have an error of their own, in their order. An error that only follows from another
+    one is none, nor one that only says that a proof names a place which the code does not have."""
+    found, lines = [], log.splitlines()
+    for number, line in enumerate(lines):
+        entry, unproved = ENTRY.match(line), UNPROVED.match(line)
+        own = None
+        if entry and entry.group(2) == "error":
+            law, _, text = line[entry.end() :].removeprefix("`").partition("`")
+            more = itertools.takewhile(lambda next: next.startswith(" "), lines[number + 1 :])
+            if not FOLLOWS.search(" ".join([text, *more])):
+                file = entry.group(1).removesuffix("/Proof")
+                own = file if entry.group(1) != file else f"{file}:{law}"
         elif unproved:
             own = unproved.group(1).replace("::", "/")
-        else:
-            continue
-        own = own.replace("+", "")
-        if own not in found:
-            found.append(own)
+        if own and own.replace("+", "") not in found:
+            found.append(own.replace("+", ""))
     return found
 
 
@@ -42,14 +47,18 @@ def places(log):
 
 WORD = r"[^\W\d][\w'-]*"
 FUNCTION = re.compile(r"( *)(?:pub(?:\(crate\))? )?(?:extern \"C\" )?fn (\w+)")
-DECLARED = re.compile(r"( *)((?:abbrev |unfoldable |opaque )*)(?:pub )?(?:(?:data|record) )?(" + WORD + r")\b[^=]* :(?: |$)")
-DEFINED = re.compile(r" *(?:abbrev |unfoldable |opaque |(?:pub )?(?:data|record) )")
+MARKS = r"(?:(?:abbrev|unfoldable|opaque|pub) )*"
+NAME = r"(?:«[^»]+»|" + WORD + r"|_[^\s(){}]+_)"
+DECLARED = re.compile(r" *" + MARKS + r"(?:(?:data|record) (" + NAME + r")(?: .*)?|(" + NAME + r"(?: " + NAME + r")*)) :(?: |$)")
+IMPORT = re.compile(r" *(?:pub )?(?:ghost )?(?:use|mod) ")
+MARKED = re.compile(r" *(?:pub )?(?:abbrev|unfoldable|opaque|data|record) ")
 
 
 def words(text):
-    """The names of a text, without comments and without fields, as in `e .phase`."""
+    """The names of a text, and its signs, without comments and without fields, as in `e .phase`."""
     text = re.sub(r"(?m)--.*$|//.*$", "", text)
-    return set(re.findall(r"(?<![\w'-])" + WORD, re.sub(r"(?<=[\s(])\.[\w«»'-]+", " ", text)))
+    text = re.sub(r"(?<=[\s(])\.[\w«»'-]+", " ", text)
+    return set(re.findall(r"(?<![\w'-])" + WORD, text)) | set(re.findall(r"[^\s\w(){}\[\],;.:«»'\"]+", text))
 
 
 def indent(line):
@@ -57,11 +66,12 @@ def indent(line):
 
 
 class Crate:
-    """A crate's files, its functions by place, its definitions by name."""
+    """A crate's files, its functions by place, its definitions by name, and what its lines belong to."""
 
     def __init__(self, name):
-        self.name, self.files, self.functions, self.definitions = name, {}, {}, {}
-        self.owner = {}  # (file, line) -> what a change of that line changes
+        self.name, self.files, self.functions = name, {}, {}
+        self.definitions, self.renamed = {}, {}
+        self.owners = {}  # (file, line) -> what a change of that line changes
         for part in ("src", "specs", "proofs"):
             for path in sorted(glob.glob(f"crates/{name}/{part}/**/*", recursive=True)):
                 if path.endswith((".rt", ".antt")):
@@ -69,9 +79,11 @@ class Crate:
                         self.files[path.split("/", 2)[2]] = file.read()
         for path, text in self.files.items():
             (self.read_code if path.endswith(".rt") else self.read_text)(path, text.splitlines())
+            for old, new in re.findall(r"(" + WORD + r") as (" + WORD + r")", text):
+                self.renamed.setdefault(new, set()).add(old)
 
     def read_code(self, path, lines):
-        """A function's contract, and its body, each with the lines that they stand on."""
+        """Each function's contract and body. What stands outside them belongs to the file."""
         module = path.removeprefix("src/").removesuffix(".rt")
         module = "" if module in ("lib", "main") else module + "/"
         kind, place, depth, closing = "", None, 0, ""
@@ -85,43 +97,46 @@ class Crate:
                 closing, place = found.group(1) + "}", module + (kind if found.group(1) else "") + found.group(2)
                 self.functions[place] = {"contract": "", "body": ""}
             if place is None:
+                self.owners[path, number] = [] if IMPORT.match(line) else [("file", path)]
                 continue
             contract = depth > 0 or re.match(r" *(requires|ensures) \{", line)
             depth += (line.count("{") - line.count("}")) if contract else 0
             part = "contract" if contract else "body"
             self.functions[place][part] += line + "\n"
-            self.owner[path, number] = (part, place)
+            self.owners[path, number] = [(part, place)]
             if line == closing:
                 place = None
 
     def read_text(self, path, lines):
-        """The definitions of a file. A line belongs to the last declaration that is no deeper than it."""
-        name = None
+        """The definitions of a file: every declaration of specs/, and of proofs/ those that are marked as one. A
+        line belongs to all the declarations that it stands in."""
+        around = []  # the declarations around a line: depth, names, whether they are definitions
         for number, line in enumerate(lines):
-            found = DECLARED.match(line)
-            if line.startswith(("use ", "module ", "pub mod ")) or not line.strip():
+            if not line.strip() or IMPORT.match(line) or line.lstrip().startswith("--"):
                 continue
-            if found and not found.group(1) or re.match(r"(?:pub )?(?:data|record) ", line):
-                name = re.sub(r"^(?:abbrev |unfoldable |opaque |pub |data |record )*", "", line).split()[0]
-            if name is None or line.startswith("--"):
-                continue
-            self.owner[path, number] = ("definition", name)
-            if DEFINED.match(line) or name in self.definitions:
-                self.definitions[name] = self.definitions.get(name, "") + line + "\n"
+            declared, depth = DECLARED.match(line), indent(line)
+            opens = declared or line.lstrip().startswith("module ")
+            around = [one for one in around if one[0] < depth or one[0] == depth and not opens]
+            if declared:
+                names = [name.strip("«»_") for name in (declared.group(1) or declared.group(2)).split()]
+                around.append((depth, names, path.startswith("specs/") or bool(MARKED.match(line))))
+            self.owners[path, number] = [("definition", name) for _, names, _ in around for name in names]
+            for _, names, definition in around:
+                for name in names if definition else ():
+                    self.definitions[name] = self.definitions.get(name, "") + line + "\n"
 
     def law(self, file, name):
         """The statement of a law, with the premises of the modules around it."""
         lines = self.files.get(f"proofs/{file}.antt", "").splitlines()
-        starts = [n for n, line in enumerate(lines) if re.match(r" *(?:pub )?(?:abbrev |unfoldable )*" + re.escape(name) + r" :", line)]
+        starts = [n for n, line in enumerate(lines) if re.match(r" *" + MARKS + re.escape(name) + r" :(?: |$)", line)]
         if not starts:
             return None
-        start = starts[0]
-        depth, text = indent(lines[start]), lines[start]
-        for line in lines[start + 1 :]:
-            if indent(line) <= depth and not line.strip().startswith("→"):
+        depth, text = indent(lines[starts[0]]), lines[starts[0]]
+        for line in lines[starts[0] + 1 :]:
+            if indent(line) <= depth:
                 break
             text += "\n" + line
-        for number in range(start - 1, -1, -1):
+        for number in range(starts[0] - 1, -1, -1):
             line = lines[number]
             if line.strip().startswith("module ") and indent(line) < depth:
                 depth, end = indent(line), number
@@ -130,31 +145,44 @@ class Crate:
                 text += "\n" + "\n".join(lines[number : end + 1])
         return text
 
+    def leads_to(self, text):
+        """The definitions that a text leads to."""
+        todo, seen = words(text), set()
+        while todo:
+            word = todo.pop()
+            seen.add(word)
+            todo |= (words(self.definitions.get(word, "")) | self.renamed.get(word, set())) - seen
+        return {("definition", word) for word in seen if word in self.definitions}
+
+    def called(self, place):
+        """The functions that one calls, by the last part of their names."""
+        names = words(self.functions[place]["body"])
+        return {other for other in self.functions if other != place and other.split("/")[-1] in names}
+
     def speaks_of(self, place):
         """What the statement at a place depends on: definitions, and for a function its body and contract and the
         contracts of what it calls. None where there is no such place."""
         if ":" in place:
-            found, text = set(), self.law(*place.split(":", 1))
-            if text is None:
-                return None
-        elif place in self.functions:
-            own = self.functions[place]
-            found, text = {("body", place), ("contract", place)}, own["contract"] + own["body"]
-            called = words(own["body"])
-            for other, parts in self.functions.items():
-                if other != place and other.split("/")[-1] in called:
-                    found.add(("contract", other))
-                    text += parts["contract"]
-        else:
+            text = self.law(*place.split(":", 1))
+            return text and self.leads_to(text)
+        if place not in self.functions:
             return None
-        todo, seen = words(text), set()
+        called, own = self.called(place), self.functions[place]
+        text = own["contract"] + own["body"] + "".join(self.functions[other]["contract"] for other in called)
+        found = {("body", place), ("contract", place), *(("contract", other) for other in called)}
+        return found | self.leads_to(text) | {("file", path) for path in self.files if path.endswith(".rt")}
+
+    def below(self, place):
+        """The functions that one calls, those that these call, and so on."""
+        todo, seen = self.called(place), set()
         while todo:
-            word = todo.pop()
-            if word not in seen and word in self.definitions:
-                found.add(("definition", word))
-                todo |= words(self.definitions[word]) - seen
-            seen.add(word)
-        return found
+            seen.add(one := todo.pop())
+            todo |= self.called(one) - seen
+        return seen
+
+    def rests_on(self, place):
+        """What a function rests on: what it speaks of, and the functions below it."""
+        return set().union(*(self.speaks_of(one) for one in {place} | self.below(place)))
 
 
 # ---- an edit
@@ -164,7 +192,8 @@ class Edit:
     def __init__(self, path):
         _, self.crate, _, name = path.split("/")
         self.path, self.name = path, name.removesuffix(".edit")
-        self.pairs, self.places, self.comments, file, old = [], [], [], None, None
+        self.pairs, self.places, self.fails, self.apart, self.other = [], [], "", False, []
+        file, old = None, None
         with open(path, encoding="utf-8") as text:
             self.text = text.read()
         for line in self.text.splitlines():
@@ -173,10 +202,16 @@ class Edit:
                 file = rest
             elif key == "old":
                 old = rest
-            elif key == "new" or line == "new:":
+            elif key == "new":
                 self.pairs.append((file, old, rest))
             elif key == "refused":
                 self.places += rest.split()
+            elif key == "fails":
+                self.fails = rest
+            elif line == "apart: callees":
+                self.apart = True
+            else:
+                self.other.append(line)
 
     def apply(self, files):
         """The files with the edit's replacements, or an exception that says what is wrong."""
@@ -199,7 +234,7 @@ class Edit:
 
     def changes(self, crate):
         """What it changes: contracts, bodies, definitions. What a file imports is none of these."""
-        return {crate.owner[at] for at in self.lines(crate) if at in crate.owner}
+        return {what for at in self.lines(crate) for what in crate.owners.get(at, [])}
 
 
 def edits(crate):
