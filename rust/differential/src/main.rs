@@ -52,6 +52,15 @@ fn all_lists(tally: &mut Tally) -> bool {
     })
 }
 
+/// How many lists the alphabets give, over the four variants.
+fn number_of_lists() -> usize {
+    let of = |letters: usize, longest| (1..=longest).map(|n| 4 * letters.pow(n)).sum::<usize>();
+    ALPHABETS
+        .iter()
+        .map(|(letters, longest)| of(letters.len(), *longest as u32))
+        .sum()
+}
+
 /// A seed that no run before had.
 fn new_seed() -> u64 {
     let now = SystemTime::now().duration_since(UNIX_EPOCH);
@@ -85,7 +94,13 @@ fn main() -> ExitCode {
         return ExitCode::FAILURE;
     }
     println!("differences 0");
-    let faults = tally.faults(random);
+    let mut faults = tally.faults(random);
+    if !random && tally.counts.lists != number_of_lists() {
+        faults.push(format!(
+            "never came up: one of the {} lists",
+            number_of_lists()
+        ));
+    }
     if faults.is_empty() {
         return ExitCode::SUCCESS;
     }

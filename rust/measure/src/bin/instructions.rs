@@ -9,7 +9,7 @@ use measure::contenders::{Contender, Job, Operation, VARIANTS};
 use measure::valgrind;
 
 const LENGTHS: [usize; 4] = [16, 64, 1 << 10, 16 << 10];
-const HEADERS: [usize; 2] = [0, 32];
+const HEADERS: [usize; 3] = [0, 32, 100];
 
 fn main() -> ExitCode {
     if !valgrind::running() {
