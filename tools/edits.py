@@ -1,5 +1,5 @@
 """The must-fail edits: their text, what each changes, what the places that it names speak of, and the places of a
-prover's log. For tools/bundle-edits, tools/check-edits and tools/try-edit.
+prover's log. For tools/bundle-edits, tools/check-edits and tools/check-claims.
 
 An edit is a file crates/CRATE/edits/NAME.edit in the form of `rt`: a line "file: PATH" holds for the pairs of
 lines "old: TEXT" and "new: TEXT" behind it, and each old text stands once in its file. A line
