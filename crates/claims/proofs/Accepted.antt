@@ -14,20 +14,20 @@ use Rattle.schwaemm.specs.Schwaemm.{Params, crypt, prepared, sealing, opening a
 use Rattle.schwaemm.proofs.Cut.{ready-bound, rest-below, length-held}
 use Rattle.schwaemm.proofs.States.{length-prepared, length-crypt}
 use Rattle.schwaemm.proofs.RoundTrip.{length-blocks, length-crypted-blocks, length-beforeLast, lastBlock-fits, length-tag}
-use Rattle.tc_sparkle_aead.specs.declared.variant.SparkleVariant.{SparkleVariant}
-use Rattle.tc_sparkle_aead.specs.declared.phase.Direction.{Direction}
-use Rattle.tc_sparkle_aead.specs.declared.phase.Direction.the-variants.{Encrypt, Decrypt}
-use Rattle.tc_sparkle_aead.specs.declared.phase.Phase.{Phase}
-use Rattle.tc_sparkle_aead.specs.declared.phase.Phase.the-variants.{Uninitialized, Init, Aad, Data, Final}
-use Rattle.tc_sparkle_aead.specs.declared.aead_error.AeadError.the-variants.{OutputTooShort, CiphertextTooShort, InputTooLong}
-use Rattle.tc_sparkle_aead.specs.declared.aead_error.AeadResult.{AeadResult}
-use Rattle.tc_sparkle_aead.specs.declared.aead_error.AeadResult.the-variants.{Ok, Err}
+use Rattle.tc_aead_cipher.specs.declared.variant.SparkleVariant.{SparkleVariant}
+use Rattle.tc_aead_cipher.specs.declared.phase.Direction.{Direction}
+use Rattle.tc_aead_cipher.specs.declared.phase.Direction.the-variants.{Encrypt, Decrypt}
+use Rattle.tc_aead_cipher.specs.declared.phase.Phase.{Phase}
+use Rattle.tc_aead_cipher.specs.declared.phase.Phase.the-variants.{Uninitialized, Init, Aad, Data, Final}
+use Rattle.tc_aead_cipher.specs.declared.aead_error.AeadError.the-variants.{OutputTooShort, CiphertextTooShort, InputTooLong}
+use Rattle.tc_aead_cipher.specs.declared.aead_error.AeadResult.{AeadResult}
+use Rattle.tc_aead_cipher.specs.declared.aead_error.AeadResult.the-variants.{Ok, Err}
 use Rattle.tc_sparkle_aead.specs.declared.engine.Mac.{Mac}
 use Rattle.tc_sparkle_aead.specs.declared.engine.SparkleEngine.{SparkleEngine}
-use Rattle.tc_sparkle_aead.specs.Variant.{paramsOf}
-use Rattle.tc_sparkle_aead.specs.Checks.{opens, opening, keep, heldIn, then, within64, updateLen, totalLen, phaseCheck, room, dataCheck, whole, endCheck}
+use Rattle.tc_aead_cipher.specs.Variant.{paramsOf}
+use Rattle.tc_aead_cipher.specs.Checks.{opens, opening, keep, heldIn, then, within64, updateLen, totalLen, phaseCheck, room, dataCheck, whole, endCheck}
 use Rattle.tc_sparkle_aead.specs.Calls.{stateIn, stream, blocks, beginData, plainOf, dataOut, written, sealLast, sealTag, openBlock, openLast, plainBy, streamOut}
-use Rattle.tc_sparkle_aead.proofs.VariantLaws.{sizes, small}
+use Rattle.tc_aead_cipher.proofs.VariantLaws.{sizes, small}
 use Rattle.claims.specs.Reader.{Reader, heldOf, dataPhase}
 use Rattle.claims.specs.Messages.{released, Writes}
 use Rattle.claims.proofs.Points.{held-nil, blockPoint}

@@ -6,16 +6,18 @@ use mathlib.Core.List.{List, [], _∷_}
 use Prim.Native.Nat.{ℕ}
 use lib.ListN.{length}
 use Rattle.schwaemm.specs.Schwaemm.{verified}
-use Rattle.tc_sparkle_aead.specs.declared.variant.SparkleVariant.{SparkleVariant}
-use Rattle.tc_sparkle_aead.specs.declared.phase.Phase.{Phase}
-use Rattle.tc_sparkle_aead.specs.declared.phase.Phase.the-variants.{Uninitialized, Init, Aad, Data, Final}
-use Rattle.tc_sparkle_aead.specs.declared.aead_error.AeadResult.{AeadResult}
-use Rattle.tc_sparkle_aead.specs.declared.aead_error.AeadResult.the-variants.{Ok, Err}
+use Rattle.tc_aead_cipher.specs.declared.variant.SparkleVariant.{SparkleVariant}
+use Rattle.tc_aead_cipher.specs.declared.phase.Phase.{Phase}
+use Rattle.tc_aead_cipher.specs.declared.phase.Phase.the-variants.{Uninitialized, Init, Aad, Data, Final}
+use Rattle.tc_aead_cipher.specs.declared.aead_error.AeadResult.{AeadResult}
+use Rattle.tc_aead_cipher.specs.declared.aead_error.AeadResult.the-variants.{Ok, Err}
 use Rattle.tc_sparkle_aead.specs.declared.engine.SparkleEngine.{SparkleEngine}
-use Rattle.tc_sparkle_aead.specs.Variant.{paramsOf}
-use Rattle.tc_sparkle_aead.specs.Checks.{opening, aadCheck, headerCheck, endCheck}
+use Rattle.tc_aead_cipher.specs.Variant.{paramsOf}
+use Rattle.tc_aead_cipher.specs.Checks.{opening, aadCheck, headerCheck, endCheck}
 use Rattle.tc_sparkle_aead.specs.Calls.{aadBy}
-use Rattle.claims.specs.Call.{Call, step, run, Outcome, outcome}
+use Rattle.tc_aead_cipher.specs.Call.{Call}
+use Rattle.tc_sparkle_aead.specs.Sheet.{step, run}
+use Rattle.tc_aead_cipher.specs.Outcome.{Outcome, outcome}
 use Rattle.claims.specs.Reader.{Reader, heldOf, reader}
 use Rattle.claims.specs.Messages.{openOutcome, Asked, endOutcome, answerOf}
 use Rattle.claims.proofs.Kept.{Follows, engineOf}

@@ -11,19 +11,21 @@ use mathlib.Core.List.{List, [], _∷_, _++_, map}
 use Prim.Native.Nat.{ℕ, _+_, _-_, _%_, _^_, _≤_}
 use lib.ListN.{length, take}
 use Rattle.schwaemm.specs.Schwaemm.{seal, decrypt, tag, body as bodyOf, verified, steps}
-use Rattle.tc_sparkle_aead.specs.declared.variant.SparkleVariant.{SparkleVariant}
-use Rattle.tc_sparkle_aead.specs.declared.variant.SparkleVariant.the-variants.{«Schwaemm128_128»}
-use Rattle.tc_sparkle_aead.specs.declared.phase.Direction.{Direction}
-use Rattle.tc_sparkle_aead.specs.declared.phase.Direction.the-variants.{Encrypt, Decrypt}
-use Rattle.tc_sparkle_aead.specs.declared.phase.Phase.the-variants.{Final}
-use Rattle.tc_sparkle_aead.specs.declared.aead_error.AeadResult.the-variants.{Ok}
+use Rattle.tc_aead_cipher.specs.declared.variant.SparkleVariant.{SparkleVariant}
+use Rattle.tc_aead_cipher.specs.declared.variant.SparkleVariant.the-variants.{«Schwaemm128_128»}
+use Rattle.tc_aead_cipher.specs.declared.phase.Direction.{Direction}
+use Rattle.tc_aead_cipher.specs.declared.phase.Direction.the-variants.{Encrypt, Decrypt}
+use Rattle.tc_aead_cipher.specs.declared.phase.Phase.the-variants.{Final}
+use Rattle.tc_aead_cipher.specs.declared.aead_error.AeadResult.the-variants.{Ok}
 use Rattle.tc_sparkle_aead.specs.declared.engine.SparkleEngine.{SparkleEngine}
-use Rattle.tc_sparkle_aead.specs.Variant.{paramsOf}
-use Rattle.tc_sparkle_aead.specs.Checks.{opening, keep, endCheck}
+use Rattle.tc_aead_cipher.specs.Variant.{paramsOf}
+use Rattle.tc_aead_cipher.specs.Checks.{opening, keep, endCheck}
 use Rattle.tc_sparkle_aead.specs.Engine.{noMac, newEngine}
 use Rattle.tc_sparkle_aead.specs.Calls.{readable, macOf, stepsNow}
-use Rattle.claims.specs.Call.{Call, Alike, step, Line, sheet, runFrom, run}
-use Rattle.claims.specs.Call.Outcome.{ok, no}
+use Rattle.tc_aead_cipher.specs.Call.{Call}
+use Rattle.claims.specs.Shape.{Alike}
+use Rattle.tc_sparkle_aead.specs.Sheet.{step, Line, sheet, runFrom, run}
+use Rattle.tc_aead_cipher.specs.Outcome.Outcome.{ok, no}
 use Rattle.claims.specs.Reader.{newReader, heldOf, repeated, read, reader, verdicts}
 use Rattle.claims.specs.Reader.Verdict.{Yes, No, None}
 use Rattle.claims.specs.Messages.{Each, outputs, headerBytes, dataBytes, HeaderCall, DataCall, messageCalls, Rooms, Ample}

@@ -7,31 +7,31 @@ use Prim.Native.Nat.{ℕ, _+_, _-_, _*_, _^_, _≤_, _<_, min}
 use native.Mathlib.Omega.{arith}
 use lib.ListN.{length, take, length-take, length-replicate}
 use Rattle.schwaemm.specs.Bytes.{same}
-use Rattle.tc_sparkle_aead.specs.declared.phase.Direction.{Direction}
-use Rattle.tc_sparkle_aead.specs.declared.phase.Direction.the-variants.{Encrypt, Decrypt}
-use Rattle.tc_sparkle_aead.specs.declared.phase.Phase.{Phase}
-use Rattle.tc_sparkle_aead.specs.declared.phase.Phase.the-variants.{Uninitialized, Init, Aad, Data, Final}
-use Rattle.tc_sparkle_aead.specs.declared.aead_error.AeadError.{AeadError}
-use Rattle.tc_sparkle_aead.specs.declared.aead_error.AeadError.the-variants.{NotInitialized, AlreadyFinalized, OutputTooShort}
-use Rattle.tc_sparkle_aead.specs.declared.aead_error.AeadError.the-variants.{CiphertextTooShort, InputTooLong}
-use Rattle.tc_sparkle_aead.specs.declared.aead_error.AeadResult.{AeadResult}
-use Rattle.tc_sparkle_aead.specs.declared.aead_error.AeadResult.the-variants.{Ok, Err}
-use Rattle.tc_sparkle_aead.specs.declared.aead_init_error.AeadInitResult.{AeadInitResult}
-use Rattle.tc_sparkle_aead.specs.declared.aead_init_error.AeadInitResult.the-variants.{Ok as StartOk, Err as StartErr}
+use Rattle.tc_aead_cipher.specs.declared.phase.Direction.{Direction}
+use Rattle.tc_aead_cipher.specs.declared.phase.Direction.the-variants.{Encrypt, Decrypt}
+use Rattle.tc_aead_cipher.specs.declared.phase.Phase.{Phase}
+use Rattle.tc_aead_cipher.specs.declared.phase.Phase.the-variants.{Uninitialized, Init, Aad, Data, Final}
+use Rattle.tc_aead_cipher.specs.declared.aead_error.AeadError.{AeadError}
+use Rattle.tc_aead_cipher.specs.declared.aead_error.AeadError.the-variants.{NotInitialized, AlreadyFinalized, OutputTooShort}
+use Rattle.tc_aead_cipher.specs.declared.aead_error.AeadError.the-variants.{CiphertextTooShort, InputTooLong}
+use Rattle.tc_aead_cipher.specs.declared.aead_error.AeadResult.{AeadResult}
+use Rattle.tc_aead_cipher.specs.declared.aead_error.AeadResult.the-variants.{Ok, Err}
+use Rattle.tc_aead_cipher.specs.declared.aead_init_error.AeadInitResult.{AeadInitResult}
+use Rattle.tc_aead_cipher.specs.declared.aead_init_error.AeadInitResult.the-variants.{Ok as StartOk, Err as StartErr}
 use Rattle.tc_sparkle_aead.specs.declared.engine.SparkleEngine.{SparkleEngine}
 use Rattle.tc_sparkle_aead.specs.declared.engine.Pair.{Pair}
-use Rattle.tc_sparkle_aead.specs.Variant.{paramsOf}
-use Rattle.tc_sparkle_aead.specs.Checks.{opens, opening, heldIn, phaseCheck, headerCheck, updateLen, totalLen, aadCheck}
-use Rattle.tc_sparkle_aead.specs.Checks.{dataCheck, endCheck, startCheck}
+use Rattle.tc_aead_cipher.specs.Variant.{paramsOf}
+use Rattle.tc_aead_cipher.specs.Checks.{opens, opening, heldIn, phaseCheck, headerCheck, updateLen, totalLen, aadCheck}
+use Rattle.tc_aead_cipher.specs.Checks.{dataCheck, endCheck, startCheck}
 use Rattle.tc_sparkle_aead.specs.Engine.{zeros, repeats, updateOutputLen, outputLen}
 use Rattle.tc_sparkle_aead.specs.Calls.{refused, initBy, aadBy, processAadBytes, dataBy, dataOutBy, dataAnswer, finalAnswer}
 use Rattle.tc_sparkle_aead.specs.Calls.{heldBytes, openBlock, openEndOutBy, ended, addSteps, lastSteps, written, processBytes}
 use Rattle.tc_sparkle_aead.specs.Calls.{processBytesOut, beginData, receivedTag, openTag, openEnd, openEndBy, sealEnd}
 use Rattle.tc_sparkle_aead.specs.Calls.{finalBy, finalOutBy, doFinal, doFinalOut, afterHeader, withoutHeader}
-use Rattle.tc_sparkle_aead.proofs.CheckLaws.{updateLen-over, updateLen-fits, totalLen-over, totalLen-opening}
-use Rattle.tc_sparkle_aead.proofs.CheckLaws.{totalLen-sealing, totalLen-sealing-over, startCheck-key, startCheck-nonce}
-use Rattle.tc_sparkle_aead.proofs.CheckLaws.{startCheck-size, startCheck-opening, startCheck-sealing}
-use Rattle.tc_sparkle_aead.proofs.VariantLaws.{sizes, Small, small}
+use Rattle.tc_aead_cipher.proofs.CheckLaws.{updateLen-over, updateLen-fits, totalLen-over, totalLen-opening}
+use Rattle.tc_aead_cipher.proofs.CheckLaws.{totalLen-sealing, totalLen-sealing-over, startCheck-key, startCheck-nonce}
+use Rattle.tc_aead_cipher.proofs.CheckLaws.{startCheck-size, startCheck-opening, startCheck-sealing}
+use Rattle.tc_aead_cipher.proofs.VariantLaws.{sizes, Small, small}
 use Rattle.schwaemm.specs.Blocks.{ready}
 use Rattle.schwaemm.specs.Schwaemm.{Params}
 use Rattle.schwaemm.proofs.RoundTrip.{same-of-equal, equal-of-same, both-true}
@@ -40,8 +40,10 @@ use borrow.Author.Tests.{lt-ltb, le-ltb, ne-eqb}
 use native.Mathlib.Decide.{ℕ-discrete, decLt}
 use native.Mathlib.Nat.{add-zero}
 use Rattle.tc_sparkle_aead.specs.Calls.{init as initCall}
-use Rattle.claims.specs.Call.{Call, Outcome, outcome, startOutcome, step}
-use Rattle.claims.specs.Call.Outcome.{ok, no}
+use Rattle.tc_aead_cipher.specs.Call.{Call}
+use Rattle.tc_aead_cipher.specs.Outcome.{Outcome, outcome, startOutcome}
+use Rattle.tc_sparkle_aead.specs.Sheet.{step}
+use Rattle.tc_aead_cipher.specs.Outcome.Outcome.{ok, no}
 use Rattle.claims.specs.Refused.{Returned, work-done, one-of-eleven, Taking, in-init, in-aad, in-data, Facing}
 use Rattle.claims.specs.Refused.{no-message, of-init, of-aad, of-data, of-final, holds, hOf, keyOf, rateOf, dataWrites}
 use Rattle.claims.specs.Refused.{endWrites, outputSum, Refused, key-length, nonce-length, mac-size, data-room, end-room}

@@ -11,22 +11,24 @@ use native.Mathlib.Decide.{ℕ-discrete}
 use lib.ListN.{length, take}
 use Rattle.schwaemm.specs.Bytes.{same}
 use Rattle.schwaemm.specs.Schwaemm.{Params, verified}
-use Rattle.tc_sparkle_aead.specs.declared.variant.SparkleVariant.{SparkleVariant}
-use Rattle.tc_sparkle_aead.specs.declared.phase.Direction.{Direction}
-use Rattle.tc_sparkle_aead.specs.declared.phase.Direction.the-variants.{Encrypt, Decrypt}
-use Rattle.tc_sparkle_aead.specs.declared.phase.Phase.{Phase}
-use Rattle.tc_sparkle_aead.specs.declared.phase.Phase.the-variants.{Uninitialized, Init, Aad, Data, Final}
-use Rattle.tc_sparkle_aead.specs.declared.aead_error.AeadResult.{AeadResult}
-use Rattle.tc_sparkle_aead.specs.declared.aead_error.AeadResult.the-variants.{Ok, Err}
-use Rattle.tc_sparkle_aead.specs.declared.aead_init_error.AeadInitResult.{AeadInitResult}
-use Rattle.tc_sparkle_aead.specs.declared.aead_init_error.AeadInitResult.the-variants.{Ok as StartOk, Err as StartErr}
+use Rattle.tc_aead_cipher.specs.declared.variant.SparkleVariant.{SparkleVariant}
+use Rattle.tc_aead_cipher.specs.declared.phase.Direction.{Direction}
+use Rattle.tc_aead_cipher.specs.declared.phase.Direction.the-variants.{Encrypt, Decrypt}
+use Rattle.tc_aead_cipher.specs.declared.phase.Phase.{Phase}
+use Rattle.tc_aead_cipher.specs.declared.phase.Phase.the-variants.{Uninitialized, Init, Aad, Data, Final}
+use Rattle.tc_aead_cipher.specs.declared.aead_error.AeadResult.{AeadResult}
+use Rattle.tc_aead_cipher.specs.declared.aead_error.AeadResult.the-variants.{Ok, Err}
+use Rattle.tc_aead_cipher.specs.declared.aead_init_error.AeadInitResult.{AeadInitResult}
+use Rattle.tc_aead_cipher.specs.declared.aead_init_error.AeadInitResult.the-variants.{Ok as StartOk, Err as StartErr}
 use Rattle.tc_sparkle_aead.specs.declared.engine.SparkleEngine.{SparkleEngine}
-use Rattle.tc_sparkle_aead.specs.Variant.{paramsOf}
-use Rattle.tc_sparkle_aead.specs.Checks.{opening, heldIn, whole, totalLen, endCheck, startCheck}
+use Rattle.tc_aead_cipher.specs.Variant.{paramsOf}
+use Rattle.tc_aead_cipher.specs.Checks.{opening, heldIn, whole, totalLen, endCheck, startCheck}
 use Rattle.tc_sparkle_aead.specs.Engine.{newEngine, repeats}
 use Rattle.tc_sparkle_aead.specs.Calls.{beginData, receivedTag, openTag}
-use Rattle.tc_sparkle_aead.proofs.CheckLaws.{startCheck-key, startCheck-nonce}
-use Rattle.claims.specs.Call.{Call, Shape, shape, Alike, step, Line, line, lines, sheet}
+use Rattle.tc_aead_cipher.proofs.CheckLaws.{startCheck-key, startCheck-nonce}
+use Rattle.tc_aead_cipher.specs.Call.{Call}
+use Rattle.claims.specs.Shape.{Shape, shape, Alike}
+use Rattle.tc_sparkle_aead.specs.Sheet.{step, Line, line, lines, sheet}
 use Rattle.claims.specs.Reader.{Verdict, verdictOf, Reader, newReader, repeated, heldOf, readStart, readHeader}
 use Rattle.claims.specs.Reader.{readMessage, readEnd, endIn, read, notes, verdicts}
 use Rattle.claims.specs.Reader.Verdict.{None}

@@ -9,20 +9,22 @@ use lib.ListN.{length, take}
 use Rattle.schwaemm.specs.Bytes.{same}
 use Rattle.schwaemm.specs.Blocks.{ready, held}
 use Rattle.schwaemm.specs.Schwaemm.{Params, verified}
-use Rattle.tc_sparkle_aead.specs.declared.variant.SparkleVariant.{SparkleVariant}
-use Rattle.tc_sparkle_aead.specs.declared.phase.Direction.the-variants.{Encrypt, Decrypt}
-use Rattle.tc_sparkle_aead.specs.declared.phase.Phase.{Phase}
-use Rattle.tc_sparkle_aead.specs.declared.phase.Phase.the-variants.{Uninitialized, Init, Aad, Data, Final}
-use Rattle.tc_sparkle_aead.specs.declared.aead_error.AeadResult.the-variants.{Ok}
+use Rattle.tc_aead_cipher.specs.declared.variant.SparkleVariant.{SparkleVariant}
+use Rattle.tc_aead_cipher.specs.declared.phase.Direction.the-variants.{Encrypt, Decrypt}
+use Rattle.tc_aead_cipher.specs.declared.phase.Phase.{Phase}
+use Rattle.tc_aead_cipher.specs.declared.phase.Phase.the-variants.{Uninitialized, Init, Aad, Data, Final}
+use Rattle.tc_aead_cipher.specs.declared.aead_error.AeadResult.the-variants.{Ok}
 use Rattle.tc_sparkle_aead.specs.declared.engine.Mac.{Mac}
 use Rattle.tc_sparkle_aead.specs.declared.engine.SparkleEngine.{SparkleEngine}
-use Rattle.tc_sparkle_aead.specs.Variant.{paramsOf}
-use Rattle.tc_sparkle_aead.specs.Checks.{opening, keep, heldIn, endCheck}
+use Rattle.tc_aead_cipher.specs.Variant.{paramsOf}
+use Rattle.tc_aead_cipher.specs.Checks.{opening, keep, heldIn, endCheck}
 use Rattle.tc_sparkle_aead.specs.Engine.{zeros, noMessage}
 use Rattle.tc_sparkle_aead.specs.Calls.{beginData, receivedTag, openTag, finalPoint}
-use Rattle.tc_sparkle_aead.proofs.VariantLaws.{sizes, small}
-use Rattle.claims.specs.Call.{Call, Alike, step, sheet, run}
-use Rattle.claims.specs.Call.Outcome.{no}
+use Rattle.tc_aead_cipher.proofs.VariantLaws.{sizes, small}
+use Rattle.tc_aead_cipher.specs.Call.{Call}
+use Rattle.claims.specs.Shape.{Alike}
+use Rattle.tc_sparkle_aead.specs.Sheet.{step, sheet, run}
+use Rattle.tc_aead_cipher.specs.Outcome.Outcome.{no}
 use Rattle.claims.specs.Reader.{Reader, heldOf, read, reader, verdicts}
 use Rattle.claims.specs.Messages.{answerOf}
 use Rattle.claims.specs.Refused.{Failed}

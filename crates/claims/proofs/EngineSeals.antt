@@ -7,17 +7,19 @@ use Prim.Native.Nat.{ℕ}
 use native.Mathlib.Omega.{arith}
 use lib.ListN.{length}
 use Rattle.schwaemm.specs.Schwaemm.{seal, decrypt, body}
-use Rattle.tc_sparkle_aead.specs.declared.variant.SparkleVariant.{SparkleVariant}
-use Rattle.tc_sparkle_aead.specs.declared.phase.Direction.{Direction}
-use Rattle.tc_sparkle_aead.specs.declared.phase.Direction.the-variants.{Encrypt, Decrypt}
-use Rattle.tc_sparkle_aead.specs.declared.aead_error.AeadResult.{AeadResult}
+use Rattle.tc_aead_cipher.specs.declared.variant.SparkleVariant.{SparkleVariant}
+use Rattle.tc_aead_cipher.specs.declared.phase.Direction.{Direction}
+use Rattle.tc_aead_cipher.specs.declared.phase.Direction.the-variants.{Encrypt, Decrypt}
+use Rattle.tc_aead_cipher.specs.declared.aead_error.AeadResult.{AeadResult}
 use Rattle.tc_sparkle_aead.specs.declared.engine.SparkleEngine.{SparkleEngine}
-use Rattle.tc_sparkle_aead.specs.Variant.{paramsOf}
-use Rattle.tc_sparkle_aead.specs.Checks.{dataCheck}
+use Rattle.tc_aead_cipher.specs.Variant.{paramsOf}
+use Rattle.tc_aead_cipher.specs.Checks.{dataCheck}
 use Rattle.tc_sparkle_aead.specs.Engine.{newEngine}
 use Rattle.tc_sparkle_aead.specs.Calls.{macOf}
-use Rattle.claims.specs.Call.{Call, outcome, step, line, run, runFrom}
-use Rattle.claims.specs.Call.Outcome.{ok}
+use Rattle.tc_aead_cipher.specs.Call.{Call}
+use Rattle.tc_aead_cipher.specs.Outcome.{outcome}
+use Rattle.tc_sparkle_aead.specs.Sheet.{step, line, run, runFrom}
+use Rattle.tc_aead_cipher.specs.Outcome.Outcome.{ok}
 use Rattle.claims.specs.Reader.{Reader, heldOf, readMessage, read, readFrom, reader}
 use Rattle.claims.specs.Messages.{outputs, AllBetween, begunEngine, wrote, answerOf, handedBy, handed, UnderWay, released}
 use Rattle.claims.specs.Messages.{finishedBytes}

@@ -12,24 +12,25 @@ use Rattle.schwaemm.specs.Bytes.{same}
 use Rattle.schwaemm.specs.Blocks.{held}
 use Rattle.schwaemm.specs.Schwaemm.{Params, Sizes, crypt, prepared, sealing, opening as openingBlock, beforeLast, lastBlock, tagOf, decrypt, tag, body as bodyOf, received, verified, leading, steps}
 use Rattle.schwaemm.proofs.RoundTrip.{tag-of-opened}
-use Rattle.tc_sparkle_aead.specs.declared.variant.SparkleVariant.{SparkleVariant}
-use Rattle.tc_sparkle_aead.specs.declared.phase.Direction.{Direction}
-use Rattle.tc_sparkle_aead.specs.declared.phase.Direction.the-variants.{Encrypt, Decrypt}
-use Rattle.tc_sparkle_aead.specs.declared.phase.Phase.{Phase}
-use Rattle.tc_sparkle_aead.specs.declared.phase.Phase.the-variants.{Uninitialized, Init, Aad, Data, Final}
-use Rattle.tc_sparkle_aead.specs.declared.aead_error.AeadResult.{AeadResult}
-use Rattle.tc_sparkle_aead.specs.declared.aead_error.AeadResult.the-variants.{Ok, Err}
-use Rattle.tc_sparkle_aead.specs.declared.aead_init_error.AeadInitResult.{AeadInitResult}
-use Rattle.tc_sparkle_aead.specs.declared.aead_init_error.AeadInitResult.the-variants.{Ok as StartOk, Err as StartErr}
+use Rattle.tc_aead_cipher.specs.declared.variant.SparkleVariant.{SparkleVariant}
+use Rattle.tc_aead_cipher.specs.declared.phase.Direction.{Direction}
+use Rattle.tc_aead_cipher.specs.declared.phase.Direction.the-variants.{Encrypt, Decrypt}
+use Rattle.tc_aead_cipher.specs.declared.phase.Phase.{Phase}
+use Rattle.tc_aead_cipher.specs.declared.phase.Phase.the-variants.{Uninitialized, Init, Aad, Data, Final}
+use Rattle.tc_aead_cipher.specs.declared.aead_error.AeadResult.{AeadResult}
+use Rattle.tc_aead_cipher.specs.declared.aead_error.AeadResult.the-variants.{Ok, Err}
+use Rattle.tc_aead_cipher.specs.declared.aead_init_error.AeadInitResult.{AeadInitResult}
+use Rattle.tc_aead_cipher.specs.declared.aead_init_error.AeadInitResult.the-variants.{Ok as StartOk, Err as StartErr}
 use Rattle.tc_sparkle_aead.specs.declared.engine.Mac.{Mac}
 use Rattle.tc_sparkle_aead.specs.declared.engine.SparkleEngine.{SparkleEngine}
-use Rattle.tc_sparkle_aead.specs.Variant.{paramsOf}
-use Rattle.tc_sparkle_aead.specs.Checks.{aadCheck, headerCheck, dataCheck, endCheck, startCheck, updateLen, totalLen}
+use Rattle.tc_aead_cipher.specs.Variant.{paramsOf}
+use Rattle.tc_aead_cipher.specs.Checks.{aadCheck, headerCheck, dataCheck, endCheck, startCheck, updateLen, totalLen}
 use Rattle.tc_sparkle_aead.specs.Engine.{noMessage, noMac, remember, currentKey, noSteps, initSteps, resetSteps, newEngine, updateOutputLen, outputLen}
 use Rattle.tc_sparkle_aead.specs.Calls.{stateIn, heldBytes, addSteps, atPoint, refused, headed, headedSteps, started, initBy, init, aadBy, processAadBytes, beginData, plainOf, dataIn, dataBy, processBytes, lastSteps, sealTag, openBlock, receivedTag, openLast, openTag, finalPoint, ended, readable, sealEnd, openEndBy, openEnd, finalBy, doFinal, dataAnswer, finalAnswer, afterHeader, plainBy, withoutHeader}
 use Rattle.tc_sparkle_aead.specs.Calls.{reset as resetEngine}
-use Rattle.tc_sparkle_aead.proofs.VariantLaws.{sizes, small}
-use Rattle.claims.specs.Call.{Call, step, runFrom, run}
+use Rattle.tc_aead_cipher.proofs.VariantLaws.{sizes, small}
+use Rattle.tc_aead_cipher.specs.Call.{Call}
+use Rattle.tc_sparkle_aead.specs.Sheet.{step, runFrom, run}
 use Rattle.claims.specs.Reader.{Reader, newReader, inPhase, headerPhase, heldOf, repeated, readStart, readHeader}
 use Rattle.claims.specs.Reader.{readMessage, readEnd, resetIn, read, readFrom, reader}
 use Rattle.claims.proofs.Points.{blockPoint}

@@ -15,27 +15,27 @@ use Rattle.schwaemm.specs.Schwaemm.{Params, Sizes, mixLast, initialise, absorbB
 use Rattle.schwaemm.proofs.Cut.{length-held, ready-cut}
 use Rattle.schwaemm.proofs.States.{stateLength, length-absorbBlock, length-messageBlock, length-initialise, length-prepared, length-mixLast}
 use Rattle.schwaemm.proofs.Steps.{steps-some}
-use Rattle.tc_sparkle_aead.specs.declared.variant.SparkleVariant.{SparkleVariant}
-use Rattle.tc_sparkle_aead.specs.declared.phase.Direction.{Direction}
-use Rattle.tc_sparkle_aead.specs.declared.phase.Direction.the-variants.{Encrypt, Decrypt}
-use Rattle.tc_sparkle_aead.specs.declared.phase.Phase.{Phase}
-use Rattle.tc_sparkle_aead.specs.declared.phase.Phase.the-variants.{Uninitialized, Init, Aad, Data, Final}
-use Rattle.tc_sparkle_aead.specs.declared.aead_error.AeadError.the-variants.{CiphertextTooShort}
-use Rattle.tc_sparkle_aead.specs.declared.aead_error.AeadResult.{AeadResult}
-use Rattle.tc_sparkle_aead.specs.declared.aead_error.AeadResult.the-variants.{Ok, Err}
-use Rattle.tc_sparkle_aead.specs.declared.aead_init_error.AeadInitError.{AeadInitError}
-use Rattle.tc_sparkle_aead.specs.declared.aead_init_error.AeadInitError.the-variants.{InvalidKeyLength, InvalidNonceLength}
-use Rattle.tc_sparkle_aead.specs.declared.aead_init_error.AeadInitResult.{AeadInitResult}
-use Rattle.tc_sparkle_aead.specs.declared.aead_init_error.AeadInitResult.the-variants.{Ok as StartOk, Err as StartErr}
+use Rattle.tc_aead_cipher.specs.declared.variant.SparkleVariant.{SparkleVariant}
+use Rattle.tc_aead_cipher.specs.declared.phase.Direction.{Direction}
+use Rattle.tc_aead_cipher.specs.declared.phase.Direction.the-variants.{Encrypt, Decrypt}
+use Rattle.tc_aead_cipher.specs.declared.phase.Phase.{Phase}
+use Rattle.tc_aead_cipher.specs.declared.phase.Phase.the-variants.{Uninitialized, Init, Aad, Data, Final}
+use Rattle.tc_aead_cipher.specs.declared.aead_error.AeadError.the-variants.{CiphertextTooShort}
+use Rattle.tc_aead_cipher.specs.declared.aead_error.AeadResult.{AeadResult}
+use Rattle.tc_aead_cipher.specs.declared.aead_error.AeadResult.the-variants.{Ok, Err}
+use Rattle.tc_aead_cipher.specs.declared.aead_init_error.AeadInitError.{AeadInitError}
+use Rattle.tc_aead_cipher.specs.declared.aead_init_error.AeadInitError.the-variants.{InvalidKeyLength, InvalidNonceLength}
+use Rattle.tc_aead_cipher.specs.declared.aead_init_error.AeadInitResult.{AeadInitResult}
+use Rattle.tc_aead_cipher.specs.declared.aead_init_error.AeadInitResult.the-variants.{Ok as StartOk, Err as StartErr}
 use Rattle.tc_sparkle_aead.specs.declared.engine.Point.{Point}
 use Rattle.tc_sparkle_aead.specs.declared.engine.Pair.{Pair}
 use Rattle.tc_sparkle_aead.specs.declared.engine.Mac.{Mac}
 use Rattle.tc_sparkle_aead.specs.declared.engine.SparkleEngine.{SparkleEngine}
-use Rattle.tc_sparkle_aead.specs.Variant.{paramsOf}
-use Rattle.tc_sparkle_aead.specs.Checks.{opening, keep, heldIn, dataCheck, endCheck, startCheck, updateLen, totalLen, phaseCheck, then, room, whole}
+use Rattle.tc_aead_cipher.specs.Variant.{paramsOf}
+use Rattle.tc_aead_cipher.specs.Checks.{opening, keep, heldIn, dataCheck, endCheck, startCheck, updateLen, totalLen, phaseCheck, then, room, whole}
 use Rattle.tc_sparkle_aead.specs.Engine.{zeros, inArray, noMessage, noMac, noPair, repeats, remember, currentKey, noSteps, newEngine}
 use Rattle.tc_sparkle_aead.specs.Calls.{stateIn, putState, heldBytes, stream, blocks, streamed, startPoint, headed, headedSteps, plainOf, finalPoint, readable}
-use Rattle.tc_sparkle_aead.proofs.VariantLaws.{Small}
+use Rattle.tc_aead_cipher.proofs.VariantLaws.{Small}
 use Rattle.claims.specs.Reader.{Reader, newReader, headerPhase}
 use Rattle.claims.proofs.Points.{take-inArray, ready-zero, held-nil, blockPoint, blockPoint-nil, heldBytes-aad}
 use Rattle.claims.proofs.Points.{heldBytes-data, state-point, blocks-point, put-point, streamed-point, given-point}

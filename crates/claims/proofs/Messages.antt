@@ -11,25 +11,27 @@ use Rattle.schwaemm.specs.Blocks.{ready}
 use Rattle.schwaemm.specs.Schwaemm.{Params, Sizes, decrypt, seal, tag, steps, body as bodyOf, verified}
 use Rattle.schwaemm.proofs.Cut.{ready-bound}
 use Rattle.schwaemm.proofs.RoundTrip.{verified-seal, body-seal, decrypt-encrypt, length-seal, length-decrypt}
-use Rattle.tc_sparkle_aead.specs.declared.variant.SparkleVariant.{SparkleVariant}
-use Rattle.tc_sparkle_aead.specs.declared.phase.Direction.{Direction}
-use Rattle.tc_sparkle_aead.specs.declared.phase.Direction.the-variants.{Encrypt, Decrypt}
-use Rattle.tc_sparkle_aead.specs.declared.phase.Phase.{Phase}
-use Rattle.tc_sparkle_aead.specs.declared.phase.Phase.the-variants.{Init, Aad}
-use Rattle.tc_sparkle_aead.specs.declared.aead_error.AeadResult.{AeadResult}
-use Rattle.tc_sparkle_aead.specs.declared.aead_error.AeadResult.the-variants.{Ok, Err}
-use Rattle.tc_sparkle_aead.specs.declared.aead_init_error.AeadInitError.the-variants.{NonceReuse}
-use Rattle.tc_sparkle_aead.specs.declared.aead_init_error.AeadInitResult.the-variants.{Ok as StartOk, Err as StartErr}
+use Rattle.tc_aead_cipher.specs.declared.variant.SparkleVariant.{SparkleVariant}
+use Rattle.tc_aead_cipher.specs.declared.phase.Direction.{Direction}
+use Rattle.tc_aead_cipher.specs.declared.phase.Direction.the-variants.{Encrypt, Decrypt}
+use Rattle.tc_aead_cipher.specs.declared.phase.Phase.{Phase}
+use Rattle.tc_aead_cipher.specs.declared.phase.Phase.the-variants.{Init, Aad}
+use Rattle.tc_aead_cipher.specs.declared.aead_error.AeadResult.{AeadResult}
+use Rattle.tc_aead_cipher.specs.declared.aead_error.AeadResult.the-variants.{Ok, Err}
+use Rattle.tc_aead_cipher.specs.declared.aead_init_error.AeadInitError.the-variants.{NonceReuse}
+use Rattle.tc_aead_cipher.specs.declared.aead_init_error.AeadInitResult.the-variants.{Ok as StartOk, Err as StartErr}
 use Rattle.tc_sparkle_aead.specs.declared.engine.Mac.{Mac}
 use Rattle.tc_sparkle_aead.specs.declared.engine.SparkleEngine.{SparkleEngine}
-use Rattle.tc_sparkle_aead.specs.Variant.{paramsOf}
-use Rattle.tc_sparkle_aead.specs.Checks.{opening, keep, heldIn, then, phaseCheck, updateLen, totalLen, room, whole, aadCheck, headerCheck, dataCheck, endCheck}
+use Rattle.tc_aead_cipher.specs.Variant.{paramsOf}
+use Rattle.tc_aead_cipher.specs.Checks.{opening, keep, heldIn, then, phaseCheck, updateLen, totalLen, room, whole, aadCheck, headerCheck, dataCheck, endCheck}
 use Rattle.tc_sparkle_aead.specs.Engine.{noMac, updateOutputLen, outputLen}
 use Rattle.tc_sparkle_aead.specs.Calls.{aadBy, processAadBytes, readable, macOf, stepsNow}
-use Rattle.tc_sparkle_aead.proofs.VariantLaws.{sizes, small, keep-bound}
+use Rattle.tc_aead_cipher.proofs.VariantLaws.{sizes, small, keep-bound}
 use Rattle.tc_sparkle_aead.proofs.FinalLaws.{heldIn-bound}
-use Rattle.tc_sparkle_aead.proofs.CheckLaws.{updateLen-fits, totalLen-opening, totalLen-sealing, startCheck-opening, startCheck-sealing}
-use Rattle.claims.specs.Call.{Call, step, runFrom, run, Outcome, outcome, startOutcome}
+use Rattle.tc_aead_cipher.proofs.CheckLaws.{updateLen-fits, totalLen-opening, totalLen-sealing, startCheck-opening, startCheck-sealing}
+use Rattle.tc_aead_cipher.specs.Call.{Call}
+use Rattle.tc_sparkle_aead.specs.Sheet.{step, runFrom, run}
+use Rattle.tc_aead_cipher.specs.Outcome.{Outcome, outcome, startOutcome}
 use Rattle.claims.specs.Reader.{Reader, heldOf, headerPhase, repeated, aadPhase, readHeader, readMessage, read}
 use Rattle.claims.specs.Reader.{readFrom, reader}
 use Rattle.claims.specs.Messages.{messageOf, headerIn, dataOf, countOf, outputs, Between, AllBetween, Each, begunEngine}

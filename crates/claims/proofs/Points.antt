@@ -11,14 +11,14 @@ use Rattle.schwaemm.specs.Blocks.{ready, after, given, held}
 use Rattle.schwaemm.specs.Schwaemm.{Params, Sizes}
 use Rattle.schwaemm.proofs.Cut.{rest-below, length-held, held-cut, after-cut, given-cut, after-keeps}
 use Rattle.schwaemm.proofs.States.{stateLength}
-use Rattle.tc_sparkle_aead.specs.declared.phase.Direction.{Direction}
-use Rattle.tc_sparkle_aead.specs.declared.phase.Phase.{Phase}
-use Rattle.tc_sparkle_aead.specs.declared.phase.Phase.the-variants.{Aad, Data}
+use Rattle.tc_aead_cipher.specs.declared.phase.Direction.{Direction}
+use Rattle.tc_aead_cipher.specs.declared.phase.Phase.{Phase}
+use Rattle.tc_aead_cipher.specs.declared.phase.Phase.the-variants.{Aad, Data}
 use Rattle.tc_sparkle_aead.specs.declared.engine.Point.{Point}
-use Rattle.tc_sparkle_aead.specs.Checks.{keep}
+use Rattle.tc_aead_cipher.specs.Checks.{keep}
 use Rattle.tc_sparkle_aead.specs.Engine.{zeros, inArray}
 use Rattle.tc_sparkle_aead.specs.Calls.{stateIn, putState, heldBytes, stream, blocks, streamed}
-use Rattle.tc_sparkle_aead.proofs.VariantLaws.{Small, keep-bound}
+use Rattle.tc_aead_cipher.proofs.VariantLaws.{Small, keep-bound}
 
 -- ---- Arrays
 

@@ -11,27 +11,30 @@ use lib.Dec.{eqb, ltb}
 use Rattle.schwaemm.specs.Bytes.{same}
 use Rattle.schwaemm.specs.Blocks.{ready, held}
 use Rattle.schwaemm.specs.Schwaemm.{Params}
-use Rattle.tc_sparkle_aead.specs.declared.variant.SparkleVariant.{SparkleVariant}
-use Rattle.tc_sparkle_aead.specs.declared.phase.Direction.{Direction}
-use Rattle.tc_sparkle_aead.specs.declared.phase.Direction.the-variants.{Encrypt, Decrypt}
-use Rattle.tc_sparkle_aead.specs.declared.phase.Phase.{Phase}
-use Rattle.tc_sparkle_aead.specs.declared.phase.Phase.the-variants.{Uninitialized, Init, Aad, Data, Final}
-use Rattle.tc_sparkle_aead.specs.declared.aead_error.AeadResult.{AeadResult}
-use Rattle.tc_sparkle_aead.specs.declared.aead_error.AeadResult.the-variants.{Ok, Err}
-use Rattle.tc_sparkle_aead.specs.declared.aead_init_error.AeadInitError.the-variants.{InvalidKeyLength, InvalidNonceLength, InvalidMacSize, NonceReuse}
-use Rattle.tc_sparkle_aead.specs.declared.aead_init_error.AeadInitResult.{AeadInitResult}
-use Rattle.tc_sparkle_aead.specs.declared.aead_init_error.AeadInitResult.the-variants.{Ok as StartOk, Err as StartErr}
+use Rattle.tc_aead_cipher.specs.declared.variant.SparkleVariant.{SparkleVariant}
+use Rattle.tc_aead_cipher.specs.declared.phase.Direction.{Direction}
+use Rattle.tc_aead_cipher.specs.declared.phase.Direction.the-variants.{Encrypt, Decrypt}
+use Rattle.tc_aead_cipher.specs.declared.phase.Phase.{Phase}
+use Rattle.tc_aead_cipher.specs.declared.phase.Phase.the-variants.{Uninitialized, Init, Aad, Data, Final}
+use Rattle.tc_aead_cipher.specs.declared.aead_error.AeadResult.{AeadResult}
+use Rattle.tc_aead_cipher.specs.declared.aead_error.AeadResult.the-variants.{Ok, Err}
+use Rattle.tc_aead_cipher.specs.declared.aead_init_error.AeadInitError.the-variants.{InvalidKeyLength, InvalidNonceLength, InvalidMacSize, NonceReuse}
+use Rattle.tc_aead_cipher.specs.declared.aead_init_error.AeadInitResult.{AeadInitResult}
+use Rattle.tc_aead_cipher.specs.declared.aead_init_error.AeadInitResult.the-variants.{Ok as StartOk, Err as StartErr}
 use Rattle.tc_sparkle_aead.specs.declared.engine.Point.{Point}
 use Rattle.tc_sparkle_aead.specs.declared.engine.Steps.{Steps}
 use Rattle.tc_sparkle_aead.specs.declared.engine.SparkleEngine.{SparkleEngine}
-use Rattle.tc_sparkle_aead.specs.Variant.{paramsOf}
-use Rattle.tc_sparkle_aead.specs.Checks.{opens, opening, keep, updateLen, totalLen, aadCheck, dataCheck, endCheck, startCheck}
+use Rattle.tc_aead_cipher.specs.Variant.{paramsOf}
+use Rattle.tc_aead_cipher.specs.Checks.{opens, opening, keep, updateLen, totalLen, aadCheck, dataCheck, endCheck, startCheck}
 use Rattle.tc_sparkle_aead.specs.Engine.{zeros, inArray, noMessage, noMac, noSteps, initSteps, resetSteps, repeats, updateOutputLen, outputLen}
 use Rattle.tc_sparkle_aead.specs.Calls.{heldCount, heldBytes, stream, blocks, streamed, addSteps, atPoint, startPoint, headed, headedSteps, aadIn, beginBy, beginData, dataIn, openBlock, lastSteps, finalPoint, ended, afterHeader, withoutHeader}
 use Rattle.tc_sparkle_aead.specs.Calls.{refused, started, init, initBy, aadBy, processAadBytes, dataBy, dataAnswer, finalAnswer, processBytes, receivedTag, openTag, readable, sealEnd, openEndBy, openEnd, finalBy, doFinal, resetPoint, macOf, stepsNow}
 use Rattle.tc_sparkle_aead.specs.Calls.{reset as resetEngine}
-use Rattle.claims.specs.Call.{Call, Shape, shape, Outcome, outcome, startOutcome, step, Line, line}
-use Rattle.claims.specs.Call.Outcome.{ok, no}
+use Rattle.tc_aead_cipher.specs.Call.{Call}
+use Rattle.claims.specs.Shape.{Shape, shape}
+use Rattle.tc_aead_cipher.specs.Outcome.{Outcome, outcome, startOutcome}
+use Rattle.tc_sparkle_aead.specs.Sheet.{step, Line, line}
+use Rattle.tc_aead_cipher.specs.Outcome.Outcome.{ok, no}
 use Rattle.claims.specs.Reader.{Verdict, verdictOf, startVerdict, refusedVerdict}
 use Rattle.claims.specs.Reader.Verdict.{Yes, No, None}
 use Rattle.claims.specs.Messages.{openOutcome, endOutcome}

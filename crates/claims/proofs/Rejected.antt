@@ -10,24 +10,26 @@ use lib.Dec.{eqb, ltb}
 use Rattle.schwaemm.specs.Bytes.{same}
 use Rattle.schwaemm.specs.Blocks.{ready}
 use Rattle.schwaemm.specs.Schwaemm.{Params, verified, seal, leading}
-use Rattle.tc_sparkle_aead.specs.declared.variant.SparkleVariant.{SparkleVariant}
-use Rattle.tc_sparkle_aead.specs.declared.variant.SparkleVariant.the-variants.{«Schwaemm128_128»}
-use Rattle.tc_sparkle_aead.specs.declared.phase.Direction.{Direction}
-use Rattle.tc_sparkle_aead.specs.declared.phase.Direction.the-variants.{Encrypt}
-use Rattle.tc_sparkle_aead.specs.declared.phase.Phase.{Phase}
-use Rattle.tc_sparkle_aead.specs.declared.phase.Phase.the-variants.{Uninitialized, Init, Aad, Data, Final}
-use Rattle.tc_sparkle_aead.specs.declared.aead_error.AeadResult.{AeadResult}
-use Rattle.tc_sparkle_aead.specs.declared.aead_error.AeadResult.the-variants.{Ok, Err}
-use Rattle.tc_sparkle_aead.specs.declared.aead_init_error.AeadInitError.the-variants.{InvalidKeyLength, InvalidNonceLength, InvalidMacSize, NonceReuse}
-use Rattle.tc_sparkle_aead.specs.declared.aead_init_error.AeadInitResult.{AeadInitResult}
-use Rattle.tc_sparkle_aead.specs.declared.aead_init_error.AeadInitResult.the-variants.{Ok as StartOk, Err as StartErr}
+use Rattle.tc_aead_cipher.specs.declared.variant.SparkleVariant.{SparkleVariant}
+use Rattle.tc_aead_cipher.specs.declared.variant.SparkleVariant.the-variants.{«Schwaemm128_128»}
+use Rattle.tc_aead_cipher.specs.declared.phase.Direction.{Direction}
+use Rattle.tc_aead_cipher.specs.declared.phase.Direction.the-variants.{Encrypt}
+use Rattle.tc_aead_cipher.specs.declared.phase.Phase.{Phase}
+use Rattle.tc_aead_cipher.specs.declared.phase.Phase.the-variants.{Uninitialized, Init, Aad, Data, Final}
+use Rattle.tc_aead_cipher.specs.declared.aead_error.AeadResult.{AeadResult}
+use Rattle.tc_aead_cipher.specs.declared.aead_error.AeadResult.the-variants.{Ok, Err}
+use Rattle.tc_aead_cipher.specs.declared.aead_init_error.AeadInitError.the-variants.{InvalidKeyLength, InvalidNonceLength, InvalidMacSize, NonceReuse}
+use Rattle.tc_aead_cipher.specs.declared.aead_init_error.AeadInitResult.{AeadInitResult}
+use Rattle.tc_aead_cipher.specs.declared.aead_init_error.AeadInitResult.the-variants.{Ok as StartOk, Err as StartErr}
 use Rattle.tc_sparkle_aead.specs.declared.engine.SparkleEngine.{SparkleEngine}
-use Rattle.tc_sparkle_aead.specs.Variant.{paramsOf}
-use Rattle.tc_sparkle_aead.specs.Checks.{opening, keep, heldIn, within64, then, room, whole, updateLen, totalLen, aadCheck, dataCheck, endCheck, startCheck}
+use Rattle.tc_aead_cipher.specs.Variant.{paramsOf}
+use Rattle.tc_aead_cipher.specs.Checks.{opening, keep, heldIn, within64, then, room, whole, updateLen, totalLen, aadCheck, dataCheck, endCheck, startCheck}
 use Rattle.tc_sparkle_aead.specs.Engine.{newEngine}
 use Rattle.tc_sparkle_aead.specs.Calls.{stepsNow}
-use Rattle.claims.specs.Call.{Call, outcome, startOutcome, step, Line, line}
-use Rattle.claims.specs.Call.Outcome.{ok, no}
+use Rattle.tc_aead_cipher.specs.Call.{Call}
+use Rattle.tc_aead_cipher.specs.Outcome.{outcome, startOutcome}
+use Rattle.tc_sparkle_aead.specs.Sheet.{step, Line, line}
+use Rattle.tc_aead_cipher.specs.Outcome.Outcome.{ok, no}
 use Rattle.claims.specs.Reader.{Reader, newReader, heldOf, repeated, read, notes, verdicts, reader, readFrom}
 use Rattle.claims.specs.Reader.Verdict.{Yes, No}
 use Rattle.claims.specs.Messages.{endOutcome, answerOf}

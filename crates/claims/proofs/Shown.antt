@@ -5,23 +5,24 @@ use mathlib.Core.List.{List, [], _∷_, map}
 use Prim.Native.Nat.{ℕ}
 use lib.ListN.{length}
 use Rattle.schwaemm.specs.Schwaemm.{verified}
-use Rattle.tc_sparkle_aead.specs.declared.variant.SparkleVariant.{SparkleVariant}
-use Rattle.tc_sparkle_aead.specs.declared.phase.Direction.{Direction}
-use Rattle.tc_sparkle_aead.specs.declared.phase.Phase.{Phase}
-use Rattle.tc_sparkle_aead.specs.declared.phase.Phase.the-variants.{Uninitialized, Init, Aad, Data, Final}
-use Rattle.tc_sparkle_aead.specs.declared.aead_error.AeadResult.{AeadResult}
-use Rattle.tc_sparkle_aead.specs.declared.aead_error.AeadResult.the-variants.{Ok, Err}
-use Rattle.tc_sparkle_aead.specs.declared.aead_init_error.AeadInitResult.{AeadInitResult}
-use Rattle.tc_sparkle_aead.specs.declared.aead_init_error.AeadInitResult.the-variants.{Ok as StartOk, Err as StartErr}
+use Rattle.tc_aead_cipher.specs.declared.variant.SparkleVariant.{SparkleVariant}
+use Rattle.tc_aead_cipher.specs.declared.phase.Direction.{Direction}
+use Rattle.tc_aead_cipher.specs.declared.phase.Phase.{Phase}
+use Rattle.tc_aead_cipher.specs.declared.phase.Phase.the-variants.{Uninitialized, Init, Aad, Data, Final}
+use Rattle.tc_aead_cipher.specs.declared.aead_error.AeadResult.{AeadResult}
+use Rattle.tc_aead_cipher.specs.declared.aead_error.AeadResult.the-variants.{Ok, Err}
+use Rattle.tc_aead_cipher.specs.declared.aead_init_error.AeadInitResult.{AeadInitResult}
+use Rattle.tc_aead_cipher.specs.declared.aead_init_error.AeadInitResult.the-variants.{Ok as StartOk, Err as StartErr}
 use Rattle.tc_sparkle_aead.specs.declared.engine.Mac.{Mac}
 use Rattle.tc_sparkle_aead.specs.declared.engine.SparkleEngine.{SparkleEngine}
-use Rattle.tc_sparkle_aead.specs.Variant.{paramsOf}
-use Rattle.tc_sparkle_aead.specs.Checks.{opening, aadCheck, endCheck, startCheck}
+use Rattle.tc_aead_cipher.specs.Variant.{paramsOf}
+use Rattle.tc_aead_cipher.specs.Checks.{opening, aadCheck, endCheck, startCheck}
 use Rattle.tc_sparkle_aead.specs.Engine.{noMac, newEngine, repeats}
 use Rattle.tc_sparkle_aead.specs.Calls.{atPoint, refused, started, initBy, init, aadIn, aadBy, processAadBytes, beginBy, beginData}
 use Rattle.tc_sparkle_aead.specs.Calls.{dataIn, dataBy, dataAnswer, processBytes, readable, finalBy, finalAnswer, doFinal, macOf}
 use Rattle.tc_sparkle_aead.specs.Calls.{reset as resetEngine}
-use Rattle.claims.specs.Call.{Call, step, Line, line, lines, sheet}
+use Rattle.tc_aead_cipher.specs.Call.{Call}
+use Rattle.tc_sparkle_aead.specs.Sheet.{step, Line, line, lines, sheet}
 use Rattle.claims.specs.Reader.{Reader, newReader, heldOf, read}
 use Rattle.claims.specs.Messages.{shownByEnd, shownAfter, shownTags}
 use Rattle.claims.specs.Machine.{engine, sheetOf}

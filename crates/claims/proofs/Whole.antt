@@ -10,24 +10,26 @@ use lib.Seq.{take-nil}
 use Rattle.schwaemm.specs.Blocks.{given}
 use Rattle.schwaemm.specs.Schwaemm.{Params, crypt, prepared, messageBlock, decrypt, seal, body as bodyOf, verified}
 use Rattle.schwaemm.proofs.RoundTrip.{body-seal, decrypt-encrypt}
-use Rattle.tc_sparkle_aead.specs.declared.variant.SparkleVariant.{SparkleVariant}
-use Rattle.tc_sparkle_aead.specs.declared.phase.Direction.{Direction}
-use Rattle.tc_sparkle_aead.specs.declared.phase.Direction.the-variants.{Encrypt, Decrypt}
-use Rattle.tc_sparkle_aead.specs.declared.phase.Phase.{Phase}
-use Rattle.tc_sparkle_aead.specs.declared.phase.Phase.the-variants.{Uninitialized, Init, Aad, Data, Final}
-use Rattle.tc_sparkle_aead.specs.declared.aead_error.AeadResult.{AeadResult}
-use Rattle.tc_sparkle_aead.specs.declared.aead_error.AeadResult.the-variants.{Ok, Err}
-use Rattle.tc_sparkle_aead.specs.declared.aead_init_error.AeadInitResult.{AeadInitResult}
-use Rattle.tc_sparkle_aead.specs.declared.aead_init_error.AeadInitResult.the-variants.{Ok as StartOk, Err as StartErr}
+use Rattle.tc_aead_cipher.specs.declared.variant.SparkleVariant.{SparkleVariant}
+use Rattle.tc_aead_cipher.specs.declared.phase.Direction.{Direction}
+use Rattle.tc_aead_cipher.specs.declared.phase.Direction.the-variants.{Encrypt, Decrypt}
+use Rattle.tc_aead_cipher.specs.declared.phase.Phase.{Phase}
+use Rattle.tc_aead_cipher.specs.declared.phase.Phase.the-variants.{Uninitialized, Init, Aad, Data, Final}
+use Rattle.tc_aead_cipher.specs.declared.aead_error.AeadResult.{AeadResult}
+use Rattle.tc_aead_cipher.specs.declared.aead_error.AeadResult.the-variants.{Ok, Err}
+use Rattle.tc_aead_cipher.specs.declared.aead_init_error.AeadInitResult.{AeadInitResult}
+use Rattle.tc_aead_cipher.specs.declared.aead_init_error.AeadInitResult.the-variants.{Ok as StartOk, Err as StartErr}
 use Rattle.tc_sparkle_aead.specs.declared.engine.Mac.{Mac}
 use Rattle.tc_sparkle_aead.specs.declared.engine.SparkleEngine.{SparkleEngine}
-use Rattle.tc_sparkle_aead.specs.Variant.{paramsOf}
-use Rattle.tc_sparkle_aead.specs.Refusals.{refusal}
-use Rattle.tc_sparkle_aead.specs.Checks.{opening, keep, aadCheck, headerCheck, dataCheck, endCheck, startCheck}
+use Rattle.tc_aead_cipher.specs.Variant.{paramsOf}
+use Rattle.tc_aead_cipher.specs.Refusals.{refusal}
+use Rattle.tc_aead_cipher.specs.Checks.{opening, keep, aadCheck, headerCheck, dataCheck, endCheck, startCheck}
 use Rattle.tc_sparkle_aead.specs.Engine.{repeats}
 use Rattle.tc_sparkle_aead.specs.Calls.{plainOf, initBy, init, aadBy, processAadBytes}
-use Rattle.tc_sparkle_aead.proofs.VariantLaws.{sizes, small}
-use Rattle.claims.specs.Call.{Call, Left, step, runFrom, run, Outcome, outcome, startOutcome}
+use Rattle.tc_aead_cipher.proofs.VariantLaws.{sizes, small}
+use Rattle.tc_aead_cipher.specs.Call.{Call}
+use Rattle.tc_sparkle_aead.specs.Sheet.{Left, step, runFrom, run}
+use Rattle.tc_aead_cipher.specs.Outcome.{Outcome, outcome, startOutcome}
 use Rattle.claims.specs.Reader.{Reader, heldOf, headerPhase, repeated, aadPhase, dataPhase, readHeader, readMessage}
 use Rattle.claims.specs.Reader.{readStart, readEnd, read, readFrom, reader}
 use Rattle.claims.specs.Messages.{released, Writes, countOf, wrote, outputs, headerIn, dataOf, RefusedByCheck, Between}

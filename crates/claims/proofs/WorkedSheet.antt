@@ -5,14 +5,16 @@ use mathlib.Core.Bool.{true, false}
 use mathlib.Core.List.{List, [], _∷_, map}
 use Rattle.schwaemm.specs.Bytes.{same}
 use Rattle.schwaemm.specs.Blocks.{ready}
-use Rattle.tc_sparkle_aead.specs.declared.variant.SparkleVariant.{SparkleVariant}
-use Rattle.tc_sparkle_aead.specs.declared.variant.SparkleVariant.the-variants.{«Schwaemm128_128»}
+use Rattle.tc_aead_cipher.specs.declared.variant.SparkleVariant.{SparkleVariant}
+use Rattle.tc_aead_cipher.specs.declared.variant.SparkleVariant.the-variants.{«Schwaemm128_128»}
 use Rattle.tc_sparkle_aead.specs.declared.engine.SparkleEngine.{SparkleEngine}
 use Rattle.tc_sparkle_aead.specs.Engine.{newEngine, noMessage, noMac, noSteps, initSteps, zeros}
 use Rattle.tc_sparkle_aead.specs.Calls.{addSteps, finalPoint}
-use Rattle.tc_sparkle_aead.specs.Checks.{updateLen, totalLen, aadCheck, dataCheck, endCheck, startCheck}
-use Rattle.claims.specs.Call.{Call, Shape, shape, step, Line, lines, sheet}
-use Rattle.claims.specs.Call.Outcome.{ok, no}
+use Rattle.tc_aead_cipher.specs.Checks.{updateLen, totalLen, aadCheck, dataCheck, endCheck, startCheck}
+use Rattle.tc_aead_cipher.specs.Call.{Call}
+use Rattle.claims.specs.Shape.{Shape, shape}
+use Rattle.tc_sparkle_aead.specs.Sheet.{step, Line, lines, sheet}
+use Rattle.tc_aead_cipher.specs.Outcome.Outcome.{ok, no}
 use Rattle.claims.specs.Reader.{Verdict, newReader, read, notes, verdicts}
 use Rattle.claims.specs.Reader.Verdict.{Yes, No, None}
 use Rattle.claims.specs.Worked.{worked, row}

@@ -8,17 +8,19 @@ use Prim.Native.Nat.{ℕ, _+_, _-_, _*_, _%_, _^_}
 use lib.ListN.{length, take}
 use Rattle.schwaemm.specs.Blocks.{ready}
 use Rattle.schwaemm.specs.Schwaemm.{Params, seal, decrypt, body as bodyOf, leading, stepsOf, steps}
-use Rattle.tc_sparkle_aead.specs.declared.variant.SparkleVariant.{SparkleVariant}
-use Rattle.tc_sparkle_aead.specs.declared.phase.Direction.{Direction}
-use Rattle.tc_sparkle_aead.specs.declared.phase.Direction.the-variants.{Encrypt, Decrypt}
-use Rattle.tc_sparkle_aead.specs.declared.phase.Phase.{Phase}
-use Rattle.tc_sparkle_aead.specs.declared.phase.Phase.the-variants.{Uninitialized, Init, Aad, Data, Final}
+use Rattle.tc_aead_cipher.specs.declared.variant.SparkleVariant.{SparkleVariant}
+use Rattle.tc_aead_cipher.specs.declared.phase.Direction.{Direction}
+use Rattle.tc_aead_cipher.specs.declared.phase.Direction.the-variants.{Encrypt, Decrypt}
+use Rattle.tc_aead_cipher.specs.declared.phase.Phase.{Phase}
+use Rattle.tc_aead_cipher.specs.declared.phase.Phase.the-variants.{Uninitialized, Init, Aad, Data, Final}
 use Rattle.tc_sparkle_aead.specs.declared.engine.SparkleEngine.{SparkleEngine}
-use Rattle.tc_sparkle_aead.specs.Variant.{paramsOf}
-use Rattle.tc_sparkle_aead.specs.Checks.{keep}
+use Rattle.tc_aead_cipher.specs.Variant.{paramsOf}
+use Rattle.tc_aead_cipher.specs.Checks.{keep}
 use Rattle.tc_sparkle_aead.specs.Engine.{newEngine}
-use Rattle.claims.specs.Call.{Call, Alike, step, Line, line}
-use Rattle.claims.specs.Call.Outcome.{ok}
+use Rattle.tc_aead_cipher.specs.Call.{Call}
+use Rattle.claims.specs.Shape.{Alike}
+use Rattle.tc_sparkle_aead.specs.Sheet.{step, Line, line}
+use Rattle.tc_aead_cipher.specs.Outcome.Outcome.{ok}
 use Rattle.claims.specs.Reader.{Reader, newReader, read, verdicts, reader}
 use Rattle.claims.specs.Messages.{countOf, answerOf, handedBy, UnderWay, released, finishedBytes, shownTags}
 

@@ -8,18 +8,20 @@ use lib.ListN.{length, take, drop}
 use Rattle.schwaemm.specs.Blocks.{ready, given}
 use Rattle.schwaemm.specs.Schwaemm.{Params, crypt, prepared, messageBlock, seal, decrypt, tag, body as bodyOf, verified}
 use Rattle.schwaemm.specs.Schwaemm.{leading, stepsOf, steps}
-use Rattle.tc_sparkle_aead.specs.declared.variant.SparkleVariant.{SparkleVariant}
-use Rattle.tc_sparkle_aead.specs.declared.phase.Direction.{Direction}
-use Rattle.tc_sparkle_aead.specs.declared.phase.Phase.{Phase}
-use Rattle.tc_sparkle_aead.specs.declared.phase.Phase.the-variants.{Uninitialized, Init, Aad, Data, Final}
-use Rattle.tc_sparkle_aead.specs.declared.aead_error.AeadResult.{AeadResult}
-use Rattle.tc_sparkle_aead.specs.declared.aead_error.AeadResult.the-variants.{Ok, Err}
+use Rattle.tc_aead_cipher.specs.declared.variant.SparkleVariant.{SparkleVariant}
+use Rattle.tc_aead_cipher.specs.declared.phase.Direction.{Direction}
+use Rattle.tc_aead_cipher.specs.declared.phase.Phase.{Phase}
+use Rattle.tc_aead_cipher.specs.declared.phase.Phase.the-variants.{Uninitialized, Init, Aad, Data, Final}
+use Rattle.tc_aead_cipher.specs.declared.aead_error.AeadResult.{AeadResult}
+use Rattle.tc_aead_cipher.specs.declared.aead_error.AeadResult.the-variants.{Ok, Err}
 use Rattle.tc_sparkle_aead.specs.declared.engine.SparkleEngine.{SparkleEngine}
-use Rattle.tc_sparkle_aead.specs.Variant.{paramsOf}
-use Rattle.tc_sparkle_aead.specs.Checks.{opening, keep, updateLen, totalLen, aadCheck, dataCheck, endCheck, startCheck}
+use Rattle.tc_aead_cipher.specs.Variant.{paramsOf}
+use Rattle.tc_aead_cipher.specs.Checks.{opening, keep, updateLen, totalLen, aadCheck, dataCheck, endCheck, startCheck}
 use Rattle.tc_sparkle_aead.specs.Engine.{zeros, noMac}
 use Rattle.tc_sparkle_aead.specs.Calls.{plainOf, readable, macOf, stepsNow}
-use Rattle.claims.specs.Call.{Call, Outcome, outcome, startOutcome, Left, step, runFrom, run}
+use Rattle.tc_aead_cipher.specs.Call.{Call}
+use Rattle.tc_aead_cipher.specs.Outcome.{Outcome, outcome, startOutcome}
+use Rattle.tc_sparkle_aead.specs.Sheet.{Left, step, runFrom, run}
 use Rattle.claims.specs.Reader.{Reader, heldOf, repeated, read}
 
 -- ---- Lists of calls

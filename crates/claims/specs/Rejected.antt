@@ -5,8 +5,10 @@ use Prim.Native.Nat.{ℕ, suc, _+_}
 use Rattle.tc_sparkle_aead.specs.declared.engine.SparkleEngine.{SparkleEngine}
 use Rattle.tc_sparkle_aead.specs.Engine.{newEngine}
 use Rattle.tc_sparkle_aead.specs.Calls.{stepsNow}
-use Rattle.claims.specs.Call.{Call, Outcome, step, Line, line}
-use Rattle.claims.specs.Call.Outcome.{ok, no}
+use Rattle.tc_aead_cipher.specs.Call.{Call}
+use Rattle.tc_aead_cipher.specs.Outcome.{Outcome}
+use Rattle.tc_sparkle_aead.specs.Sheet.{step, Line, line}
+use Rattle.tc_aead_cipher.specs.Outcome.Outcome.{ok, no}
 use Rattle.claims.specs.Refused.{lent}
 use Rattle.claims.specs.Machine.{Reply, Machine}
 

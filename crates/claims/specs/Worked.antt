@@ -3,8 +3,10 @@ use mathlib.Core.Bool.{Bool}
 use mathlib.Core.List.{List, [], _∷_}
 use Prim.Native.Nat.{ℕ}
 use lib.ListN.{replicate}
-use Rattle.tc_sparkle_aead.specs.declared.phase.Direction.the-variants.{Encrypt}
-use Rattle.claims.specs.Call.{Call, Outcome, Line}
+use Rattle.tc_aead_cipher.specs.declared.phase.Direction.the-variants.{Encrypt}
+use Rattle.tc_aead_cipher.specs.Call.{Call}
+use Rattle.tc_aead_cipher.specs.Outcome.{Outcome}
+use Rattle.tc_sparkle_aead.specs.Sheet.{Line}
 
 -- A sealing start of variant 1 with key and nonce of zeros and no header.
 abbrev pub start : Call

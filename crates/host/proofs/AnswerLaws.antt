@@ -6,11 +6,12 @@ use Prim.Native.Nat.{ℕ, _+_, _-_, _≤_}
 use native.Mathlib.Omega.{arith}
 use lib.ListN.{length, take, drop, length-take, length-drop, length-append}
 use lib.Seq.{paste, take-at, take-all, drop-at, drop-drop, length-take-le, length-paste}
-use Rattle.tc_sparkle_aead.specs.declared.phase.Direction.{Direction}
+use Rattle.tc_aead_cipher.specs.declared.phase.Direction.{Direction}
 use Rattle.tc_sparkle_aead.specs.declared.engine.SparkleEngine.{SparkleEngine}
 use Rattle.tc_sparkle_aead.specs.declared.engine.Started.{Started}
 use Rattle.tc_sparkle_aead.specs.Calls.{init, macOf, stepsNow}
-use Rattle.claims.specs.Call.{Call, step, line}
+use Rattle.tc_aead_cipher.specs.Call.{Call}
+use Rattle.tc_sparkle_aead.specs.Sheet.{step, line}
 use Rattle.host.specs.declared.call.Head.{Head}
 use Rattle.host.specs.declared.reply.Reply.{Reply}
 use Rattle.host.specs.Reply.{replyOf}

@@ -8,11 +8,12 @@ use borrow.Author.Tests.{lt-ltb, le-ltb, ltb-false, leb-true}
 use lib.ListN.{length, take, drop, getD, length-drop, length-append, take-append-drop, drop-of-length-le}
 use lib.Dec.{leb, ltb}
 use lib.Seq.{take-at, take-all, drop-at, drop-drop, length-take-le}
-use Rattle.tc_sparkle_aead.specs.declared.variant.SparkleVariant.{SparkleVariant}
+use Rattle.tc_aead_cipher.specs.declared.variant.SparkleVariant.{SparkleVariant}
 use Rattle.tc_sparkle_aead.specs.declared.engine.SparkleEngine.{SparkleEngine}
 use Rattle.tc_sparkle_aead.specs.Engine.{newEngine}
 use Rattle.tc_sparkle_aead.specs.Calls.{written}
-use Rattle.claims.specs.Call.{Call, step}
+use Rattle.tc_aead_cipher.specs.Call.{Call}
+use Rattle.tc_sparkle_aead.specs.Sheet.{step}
 use Rattle.host.specs.declared.call.Head.{Head}
 use Rattle.host.specs.declared.call.Read.{Read}
 use Rattle.host.specs.declared.call.Read.the-variants.{Malformed, Call as ReadCall}

@@ -6,15 +6,15 @@ use Prim.Native.Nat.{ℕ, suc, _+_, _^_, _≤_, _<_}
 use native.Mathlib.Omega.{arith}
 use lib.Dec.{eqb, ltb}
 use lib.ListN.{length, length-append}
-use Rattle.tc_sparkle_aead.specs.declared.aead_error.AeadError.the-variants.{NotInitialized, AadAfterData, AlreadyFinalized, OutputTooShort, CiphertextTooShort, AuthenticationFailed, InputTooLong}
-use Rattle.tc_sparkle_aead.specs.declared.aead_error.AeadResult.{AeadResult}
-use Rattle.tc_sparkle_aead.specs.declared.aead_error.AeadResult.the-variants.{Ok, Err}
-use Rattle.tc_sparkle_aead.specs.declared.aead_init_error.AeadInitError.the-variants.{InvalidKeyLength, InvalidNonceLength, InvalidMacSize, NonceReuse}
-use Rattle.tc_sparkle_aead.specs.declared.aead_init_error.AeadInitResult.{AeadInitResult}
-use Rattle.tc_sparkle_aead.specs.declared.aead_init_error.AeadInitResult.the-variants.{Ok as StartOk, Err as StartErr}
-use Rattle.tc_sparkle_aead.specs.declared.variant.SparkleVariant.{SparkleVariant}
-use Rattle.tc_sparkle_aead.specs.declared.variant.SparkleVariant.the-variants.{«Schwaemm128_128», «Schwaemm256_128», «Schwaemm192_192», «Schwaemm256_256»}
-use Rattle.claims.specs.Call.{outcome, startOutcome}
+use Rattle.tc_aead_cipher.specs.declared.aead_error.AeadError.the-variants.{NotInitialized, AadAfterData, AlreadyFinalized, OutputTooShort, CiphertextTooShort, AuthenticationFailed, InputTooLong}
+use Rattle.tc_aead_cipher.specs.declared.aead_error.AeadResult.{AeadResult}
+use Rattle.tc_aead_cipher.specs.declared.aead_error.AeadResult.the-variants.{Ok, Err}
+use Rattle.tc_aead_cipher.specs.declared.aead_init_error.AeadInitError.the-variants.{InvalidKeyLength, InvalidNonceLength, InvalidMacSize, NonceReuse}
+use Rattle.tc_aead_cipher.specs.declared.aead_init_error.AeadInitResult.{AeadInitResult}
+use Rattle.tc_aead_cipher.specs.declared.aead_init_error.AeadInitResult.the-variants.{Ok as StartOk, Err as StartErr}
+use Rattle.tc_aead_cipher.specs.declared.variant.SparkleVariant.{SparkleVariant}
+use Rattle.tc_aead_cipher.specs.declared.variant.SparkleVariant.the-variants.{«Schwaemm128_128», «Schwaemm256_128», «Schwaemm192_192», «Schwaemm256_256»}
+use Rattle.tc_aead_cipher.specs.Outcome.{outcome, startOutcome}
 use Rattle.claims.specs.Worked.{row}
 use Rattle.host.specs.declared.reply.Reply.{Reply}
 use Rattle.host.specs.declared.text.CallName.{CallName}

@@ -1,8 +1,8 @@
 -- The sheet of document 01's list of calls is the block printed there ("Worked by hand").
 use mathlib.Core.Path.{_≡_, ap}
 use mathlib.Core.List.{List, _++_}
-use Rattle.tc_sparkle_aead.specs.declared.variant.SparkleVariant.the-variants.{«Schwaemm128_128»}
-use Rattle.claims.specs.Call.{Line}
+use Rattle.tc_aead_cipher.specs.declared.variant.SparkleVariant.the-variants.{«Schwaemm128_128»}
+use Rattle.tc_sparkle_aead.specs.Sheet.{Line}
 use Rattle.claims.specs.Worked.{worked}
 use Rattle.claims.proofs.WorkedSheet.{worked-sheet}
 use Rattle.host.specs.Text.{text, decimalIn, lineText, titleText, linesText, sheetText}

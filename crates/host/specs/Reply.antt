@@ -4,8 +4,8 @@ use mathlib.Core.Bool.{cond}
 use mathlib.Core.List.{List, [], _∷_}
 use lib.Dec.{eqb, ltb}
 use lib.ListN.{getD, take}
-use Rattle.claims.specs.Call.{Outcome}
-use Rattle.claims.specs.Call.Outcome.{ok, no}
+use Rattle.tc_aead_cipher.specs.Outcome.{Outcome}
+use Rattle.tc_aead_cipher.specs.Outcome.Outcome.{ok, no}
 use Rattle.host.specs.declared.reply.Reply.{Reply}
 
 abbrev pub reply : ℕ → ℕ → ℕ → Reply

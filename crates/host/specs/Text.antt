@@ -7,11 +7,13 @@ use mathlib.Core.Bool.{Bool, true, false}
 use mathlib.Core.List.{List, [], _∷_, _++_}
 use lib.Dec.{ltb}
 use lib.ListN.{length}
-use Rattle.tc_sparkle_aead.specs.declared.variant.SparkleVariant.{SparkleVariant}
-use Rattle.tc_sparkle_aead.specs.Variant.{number}
+use Rattle.tc_aead_cipher.specs.declared.variant.SparkleVariant.{SparkleVariant}
+use Rattle.tc_aead_cipher.specs.Variant.{number}
 use Rattle.tc_sparkle_aead.specs.Engine.{inArray}
-use Rattle.claims.specs.Call.{Call, Outcome, Line, sheet}
-use Rattle.claims.specs.Call.Outcome.{ok, no}
+use Rattle.tc_aead_cipher.specs.Call.{Call}
+use Rattle.tc_aead_cipher.specs.Outcome.{Outcome}
+use Rattle.tc_sparkle_aead.specs.Sheet.{Line, sheet}
+use Rattle.tc_aead_cipher.specs.Outcome.Outcome.{ok, no}
 use Rattle.host.specs.declared.text.CallName.{CallName}
 use Rattle.host.specs.declared.text.CallName.the-variants.{Init, Aad, Data, Final, Reset, Mac, Update, Output}
 use Rattle.host.specs.declared.text.Text.{Text}

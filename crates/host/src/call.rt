@@ -5,9 +5,11 @@ ghost use mathlib.Core.Bool.{cond};
 ghost use Prim.Native.Nat.{_+_, _≤_};
 ghost use lib.ListN.{length, drop};
 ghost use lib.Dec.{leb};
-ghost use Rattle.tc_sparkle_aead.specs.Variant.{paramsOf};
+ghost use Rattle.tc_aead_cipher.specs.Variant.{paramsOf};
 ghost use Rattle.tc_sparkle_aead.specs.Calls.{macOf, stepsNow};
-ghost use Rattle.claims.specs.Call.{Call, Outcome, step};
+ghost use Rattle.tc_aead_cipher.specs.Call.{Call};
+ghost use Rattle.tc_aead_cipher.specs.Outcome.{Outcome};
+ghost use Rattle.tc_sparkle_aead.specs.Sheet.{step};
 ghost use Rattle.host.specs.Reply.{replyOf};
 ghost use Rattle.host.specs.CallList.{headOf, readOf, firstRun, secondRun, thirdRun, callOf, shownLength, flag, answerHead, answerOf};
 use super::bytes;
@@ -16,7 +18,7 @@ use super::reply::Reply;
 use tc_sparkle_aead::aead_cipher;
 use tc_sparkle_aead::engine;
 use tc_sparkle_aead::engine::SparkleEngine;
-use tc_sparkle_aead::phase::Direction;
+use tc_aead_cipher::phase::Direction;
 
 // The head of a call: its kind, its number, and the lengths of its three runs of bytes.
 pub struct Head {

@@ -1,13 +1,13 @@
 // An answer of the engine as numbers: what a sheet's line has of it, and what crosses to the host.
 ghost use mathlib.Core.Path.{_≡_};
-ghost use Rattle.tc_sparkle_aead.specs.Refusals.{refusal, initRefusal};
-ghost use Rattle.claims.specs.Call.{outcome, startOutcome};
-ghost use Rattle.claims.specs.Call.Outcome.{no};
+ghost use Rattle.tc_aead_cipher.specs.Refusals.{refusal, initRefusal};
+ghost use Rattle.tc_aead_cipher.specs.Outcome.{outcome, startOutcome};
+ghost use Rattle.tc_aead_cipher.specs.Outcome.Outcome.{no};
 ghost use Rattle.host.specs.Reply.{replyOf, reply};
-use tc_sparkle_aead::aead_error::AeadError;
-use tc_sparkle_aead::aead_error::AeadResult;
-use tc_sparkle_aead::aead_init_error::AeadInitError;
-use tc_sparkle_aead::aead_init_error::AeadInitResult;
+use tc_aead_cipher::aead_error::AeadError;
+use tc_aead_cipher::aead_error::AeadResult;
+use tc_aead_cipher::aead_init_error::AeadInitError;
+use tc_aead_cipher::aead_init_error::AeadInitResult;
 
 // An answer by document 01: number 0 and a count, or the refusal's number and its values; 0 where there is none.
 pub struct Reply {

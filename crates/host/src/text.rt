@@ -2,12 +2,12 @@
 ghost use mathlib.Core.Path.{_≡_};
 ghost use mathlib.Core.List.{[], _∷_, _++_};
 ghost use Prim.Native.Nat.{_+_, _<_};
-ghost use Rattle.tc_sparkle_aead.specs.Variant.{number};
+ghost use Rattle.tc_aead_cipher.specs.Variant.{number};
 ghost use Rattle.claims.specs.Worked.{row};
 ghost use Rattle.host.specs.Reply.{outcomeOf, refusalOf};
 ghost use Rattle.host.specs.Text.{Adds, cut, textOf, text, decimal, spaced, outcomeText, nameText, flagText, lineText, titleText};
 use super::reply::Reply;
-use tc_sparkle_aead::variant::SparkleVariant;
+use tc_aead_cipher::variant::SparkleVariant;
 
 // A sheet's names of the calls.
 pub enum CallName {

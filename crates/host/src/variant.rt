@@ -1,7 +1,7 @@
 // Document 01's numbers of the variants, 1 to 4.
 ghost use mathlib.Core.Path.{_≡_};
 ghost use Rattle.host.specs.Variant.{variantOf, isVariant};
-use tc_sparkle_aead::variant::SparkleVariant;
+use tc_aead_cipher::variant::SparkleVariant;
 
 // Whether a variant has the number.
 pub fn is_variant(n: u8) -> bool

@@ -10,23 +10,24 @@ use lib.ListN.{length, take, drop, length-drop, drop-of-length-le}
 use lib.Seq.{take-all}
 use Rattle.schwaemm.specs.Bytes.{same}
 use Rattle.schwaemm.specs.Schwaemm.{Params}
-use Rattle.tc_sparkle_aead.specs.declared.variant.SparkleVariant.{SparkleVariant}
-use Rattle.tc_sparkle_aead.specs.declared.phase.Direction.{Direction}
-use Rattle.tc_sparkle_aead.specs.declared.phase.Phase.{Phase}
-use Rattle.tc_sparkle_aead.specs.declared.aead_error.AeadError.{AeadError}
-use Rattle.tc_sparkle_aead.specs.declared.aead_error.AeadError.the-variants.{OutputTooShort, CiphertextTooShort}
-use Rattle.tc_sparkle_aead.specs.declared.aead_error.AeadResult.{AeadResult}
-use Rattle.tc_sparkle_aead.specs.declared.aead_error.AeadResult.the-variants.{Ok, Err}
-use Rattle.tc_sparkle_aead.specs.declared.aead_init_error.AeadInitResult.{AeadInitResult}
+use Rattle.tc_aead_cipher.specs.declared.variant.SparkleVariant.{SparkleVariant}
+use Rattle.tc_aead_cipher.specs.declared.phase.Direction.{Direction}
+use Rattle.tc_aead_cipher.specs.declared.phase.Phase.{Phase}
+use Rattle.tc_aead_cipher.specs.declared.aead_error.AeadError.{AeadError}
+use Rattle.tc_aead_cipher.specs.declared.aead_error.AeadError.the-variants.{OutputTooShort, CiphertextTooShort}
+use Rattle.tc_aead_cipher.specs.declared.aead_error.AeadResult.{AeadResult}
+use Rattle.tc_aead_cipher.specs.declared.aead_error.AeadResult.the-variants.{Ok, Err}
+use Rattle.tc_aead_cipher.specs.declared.aead_init_error.AeadInitResult.{AeadInitResult}
 use Rattle.tc_sparkle_aead.specs.declared.engine.SparkleEngine.{SparkleEngine}
 use Rattle.tc_sparkle_aead.specs.declared.engine.Done.{Done}
 use Rattle.tc_sparkle_aead.specs.declared.engine.Started.{Started}
 use Rattle.tc_sparkle_aead.specs.Engine.{newEngine}
-use Rattle.tc_sparkle_aead.specs.Variant.{paramsOf}
-use Rattle.tc_sparkle_aead.specs.Checks.{opening, then, room, whole, phaseCheck, updateLen, totalLen, dataCheck, endCheck}
-use Rattle.tc_sparkle_aead.specs.Checks.{heldIn}
+use Rattle.tc_aead_cipher.specs.Variant.{paramsOf}
+use Rattle.tc_aead_cipher.specs.Checks.{opening, then, room, whole, phaseCheck, updateLen, totalLen, dataCheck, endCheck}
+use Rattle.tc_aead_cipher.specs.Checks.{heldIn}
 use Rattle.tc_sparkle_aead.specs.Calls.{beginData, receivedTag, openTag, sealEnd, openEndBy, openEnd, dataBy, dataAnswer, finalBy, finalAnswer, init, processBytes, processBytesOut, doFinal, doFinalOut}
-use Rattle.claims.specs.Call.{Outcome, outcome, startOutcome, step}
+use Rattle.tc_aead_cipher.specs.Outcome.{Outcome, outcome, startOutcome}
+use Rattle.tc_sparkle_aead.specs.Sheet.{step}
 use Rattle.host.specs.Variant.{variantOf, isVariant}
 use Rattle.packet.specs.Packet.{endBy, endPacket, dataPacket, startBy, packetOf}
 use Rattle.packet.specs.Packet.{dataBy as packetBy}

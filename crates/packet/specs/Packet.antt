@@ -3,11 +3,13 @@ use Prim.Native.Nat.{ℕ, _+_}
 use mathlib.Core.Bool.{cond}
 use mathlib.Core.List.{List, _++_}
 use lib.ListN.{take, drop}
-use Rattle.tc_sparkle_aead.specs.declared.phase.Direction.{Direction}
+use Rattle.tc_aead_cipher.specs.declared.phase.Direction.{Direction}
 use Rattle.tc_sparkle_aead.specs.declared.engine.SparkleEngine.{SparkleEngine}
-use Rattle.tc_sparkle_aead.specs.Variant.{paramsOf}
+use Rattle.tc_aead_cipher.specs.Variant.{paramsOf}
 use Rattle.tc_sparkle_aead.specs.Engine.{newEngine}
-use Rattle.claims.specs.Call.{Call, Outcome, step}
+use Rattle.tc_aead_cipher.specs.Call.{Call}
+use Rattle.tc_aead_cipher.specs.Outcome.{Outcome}
+use Rattle.tc_sparkle_aead.specs.Sheet.{step}
 use Rattle.host.specs.declared.reply.Reply.{Reply}
 use Rattle.host.specs.Reply.{replyOf}
 use Rattle.host.specs.Variant.{variantOf, isVariant}

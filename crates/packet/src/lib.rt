@@ -1,12 +1,12 @@
 // The host boundary: whole packets at once. The exports have the C calling convention and take
 // numbers and byte slices (docs/HOST.md); no engine crosses. Call lists are `crates/host`.
 ghost use mathlib.Core.Path.{_≡_};
-ghost use Rattle.tc_sparkle_aead.specs.declared.phase.Direction.{Direction};
+ghost use Rattle.tc_aead_cipher.specs.declared.phase.Direction.{Direction};
 ghost use Rattle.packet.specs.Packet.{packetOf};
 
 mod packet;
 
-use tc_sparkle_aead::phase::Direction;
+use tc_aead_cipher::phase::Direction;
 
 // Seals a message: the ciphertext and the tag go to the output.
 #[no_mangle]

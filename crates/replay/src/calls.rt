@@ -7,7 +7,7 @@ use tc_sparkle_aead::aead_cipher;
 use tc_sparkle_aead::engine;
 use tc_sparkle_aead::engine::Done;
 use tc_sparkle_aead::engine::SparkleEngine;
-use tc_sparkle_aead::phase::Direction;
+use tc_aead_cipher::phase::Direction;
 
 // What a call answered, whether the whole output is as expected, and the engine afterwards.
 pub struct Played {

@@ -3,12 +3,12 @@
 -- comes back as it was. Of g the proof knows only that it meets its contract.
 --     own-query    such a query, whose g answers `answer` of the lent engine, answers `answer` of its engine
 -- Assumes nothing.
-use Rattle.tc_aead_cipher.proofs.Lent.{_≡_, refl, [], _∷_, ℕ, URA, fullShare, named, Val, vptr, SProp, ent, GName, ftrue, flft, Heap, Calls, Loops, WpFn, Tables, Atoms, fact, Given, ‵, raw, some, later, _⊛_, ⋆, _$_, _∵_, !, qed, by, move, drop, use1, use2, split, join, pick, fjoin, suffices, frame, await, done, look, init, forget, stop, from, load, addr, of-opd, and-then, no-more, assigns, land, returns, enter, alloc1, alloc0, params1, pass1, pass0, free1, free0, FmC, owns, Is, shows, RefT, peeks, heard, nothing, onEntry, tripleOf, Contract, Triple, calls-at, ensured, lasts, says, Stays, stay-none, walkOf, goes-none, ends-at, yes, id⊢, SparkleEngine, R, e-vals, e-typed, e-owned, meets, Meets, e-val, shows-to, shown, ShrRef, e-spelled, RattleType}
+use Rattle.entry_calls.proofs.Lent.{_≡_, refl, [], _∷_, ℕ, URA, fullShare, named, Val, vptr, SProp, ent, GName, ftrue, flft, Heap, Calls, Loops, WpFn, Tables, Atoms, fact, Given, ‵, raw, some, later, _⊛_, ⋆, _$_, _∵_, !, qed, by, move, drop, use1, use2, split, join, pick, fjoin, suffices, frame, await, done, look, init, forget, stop, from, load, addr, of-opd, and-then, no-more, assigns, land, returns, enter, alloc1, alloc0, params1, pass1, pass0, free1, free0, FmC, owns, Is, shows, RefT, peeks, heard, nothing, onEntry, tripleOf, Contract, Triple, calls-at, ensured, lasts, says, Stays, stay-none, walkOf, goes-none, ends-at, yes, id⊢, SparkleEngine, R, e-vals, e-typed, e-owned, meets, Meets, e-val, shows-to, shown, ShrRef, e-spelled, RattleType}
 use mir.Syntax.{Name, Ty, Fn, local, valueLocal, memorySlot, tyRef, erased, imm, place, copy, rvOpd, addrOf, assign, call, seq, return}
 use mir.Val.{WT, hasTy}
 use lib.Dec.{T as Holds}
 use denote.Triple.Clauses.{closing}
-use Rattle.tc_aead_cipher.proofs.Query as Query
+use Rattle.entry_calls.proofs.Query as Query
 use Rattle.tc_sparkle_aead.proofs.engine.SparkleEngine.Laws as E′
 
 module _ (T : RattleType) (τ : Ty) (answer : SparkleEngine → T .Denot) (g : Name) where

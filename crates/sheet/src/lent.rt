@@ -2,7 +2,7 @@
 // and gives it back.
 ghost use mathlib.Core.Path.{_≡_};
 ghost use Rattle.tc_sparkle_aead.specs.Calls.{processAadBytes, processBytes, processBytesOut, doFinal, doFinalOut, macOf, stepsNow};
-use tc_aead_cipher::aead_cipher;
+use entry_calls::aead_cipher;
 use tc_sparkle_aead::engine::Done;
 use tc_sparkle_aead::engine::Mac;
 use tc_sparkle_aead::engine::SparkleEngine;

@@ -9,12 +9,12 @@ use host::text;
 use host::text::CallName;
 use host::text::Text;
 use libc::STDOUT_FILENO;
-use tc_aead_cipher::aead_params_ref;
+use entry_calls::aead_params_ref;
 use tc_sparkle_aead::engine;
 use tc_sparkle_aead::engine::Done;
 use tc_sparkle_aead::engine::SparkleEngine;
-use tc_sparkle_aead::phase::Direction;
-use tc_sparkle_aead::variant::SparkleVariant;
+use tc_aead_cipher::phase::Direction;
+use tc_aead_cipher::variant::SparkleVariant;
 
 // The first n bytes, or all where there are fewer.
 fn first(s: &[u8], n: usize) -> &[u8] {

@@ -1,4 +1,7 @@
-// The calls of the Rust's traits AeadCipher and AeadCipherInit over a lent engine (docs/01-scope.md,
-// "Bending the Rust"): thin functions above the calls by value of tc_sparkle_aead.
-pub mod aead_cipher;
-pub mod aead_params_ref;
+// What stands below the engine (docs/01-scope.md, layer 2): the variants, the phases, the refusals, and
+// document 01's tables of checks over phase and numbers. Nothing here knows the engine.
+pub mod aead_error;
+pub mod aead_init_error;
+pub mod checks;
+pub mod phase;
+pub mod variant;

@@ -13,7 +13,7 @@ use Rattle.schwaemm.proofs.States.{stateLength, length-absorbBlock, length-mess
 use Rattle.schwaemm.proofs.RoundTrip.{length-crypted-blocks}
 use Rattle.tc_sparkle_aead.specs.Engine.{inArray}
 use Rattle.tc_sparkle_aead.specs.Calls.{stateIn, putState}
-use Rattle.tc_sparkle_aead.proofs.VariantLaws.{Small}
+use Rattle.tc_aead_cipher.proofs.VariantLaws.{Small}
 use Rattle.tc_sparkle_aead.proofs.StateLaws.{all-inArray, length-stateIn, state-put, put-put, put-state}
 
 -- `words` is the array where the loop begins, v the array now; `t` is the stream, of which pos bytes are taken.

@@ -8,12 +8,12 @@ use lib.Seq.{take-all}
 use Rattle.schwaemm.specs.Blocks.{ready, after, held}
 use Rattle.schwaemm.specs.Schwaemm.{Params}
 use Rattle.schwaemm.proofs.Cut.{ready-bound, rest-below}
-use Rattle.tc_sparkle_aead.specs.declared.phase.Phase.{Phase}
-use Rattle.tc_sparkle_aead.specs.declared.phase.Phase.the-variants.{Uninitialized, Init, Aad, Data, Final}
+use Rattle.tc_aead_cipher.specs.declared.phase.Phase.{Phase}
+use Rattle.tc_aead_cipher.specs.declared.phase.Phase.the-variants.{Uninitialized, Init, Aad, Data, Final}
 use Rattle.tc_sparkle_aead.specs.declared.engine.Point.{Point}
 use Rattle.tc_sparkle_aead.specs.Engine.{inArray}
 use Rattle.tc_sparkle_aead.specs.Calls.{stateIn, putState, heldCount, heldBytes, stream, blocks, streamed}
-use Rattle.tc_sparkle_aead.proofs.VariantLaws.{Small, keep-bound}
+use Rattle.tc_aead_cipher.proofs.VariantLaws.{Small, keep-bound}
 
 -- at most 64 bytes are held
 pub heldCount-bound : (p : Params) → Small p → (phase : Phase) (n : ℕ) → heldCount p phase n ≤ 64

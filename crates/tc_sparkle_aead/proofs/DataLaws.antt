@@ -10,21 +10,21 @@ use borrow.Author.Tests.{ltb-false}
 use lib.ListN.{length, take, drop}
 use Rattle.schwaemm.specs.Blocks.{ready, given}
 use Rattle.schwaemm.specs.Schwaemm.{Params, messageBlock, crypt}
-use Rattle.tc_sparkle_aead.specs.Variant.{paramsOf}
-use Rattle.tc_sparkle_aead.specs.declared.phase.Phase.{Phase}
+use Rattle.tc_aead_cipher.specs.Variant.{paramsOf}
+use Rattle.tc_aead_cipher.specs.declared.phase.Phase.{Phase}
 use Rattle.tc_sparkle_aead.specs.declared.engine.Point.{Point}
 use Rattle.tc_sparkle_aead.specs.declared.engine.Progress.{Progress}
-use Rattle.tc_sparkle_aead.specs.declared.phase.Phase.the-variants.{Uninitialized, Init, Aad, Data, Final}
-use Rattle.tc_sparkle_aead.specs.declared.phase.Direction.{Direction}
-use Rattle.tc_sparkle_aead.specs.declared.aead_error.AeadError.{AeadError}
-use Rattle.tc_sparkle_aead.specs.declared.aead_error.AeadError.the-variants.{OutputTooShort, InputTooLong}
-use Rattle.tc_sparkle_aead.specs.declared.aead_error.AeadResult.{AeadResult}
-use Rattle.tc_sparkle_aead.specs.declared.aead_error.AeadResult.the-variants.{Ok, Err}
+use Rattle.tc_aead_cipher.specs.declared.phase.Phase.the-variants.{Uninitialized, Init, Aad, Data, Final}
+use Rattle.tc_aead_cipher.specs.declared.phase.Direction.{Direction}
+use Rattle.tc_aead_cipher.specs.declared.aead_error.AeadError.{AeadError}
+use Rattle.tc_aead_cipher.specs.declared.aead_error.AeadError.the-variants.{OutputTooShort, InputTooLong}
+use Rattle.tc_aead_cipher.specs.declared.aead_error.AeadResult.{AeadResult}
+use Rattle.tc_aead_cipher.specs.declared.aead_error.AeadResult.the-variants.{Ok, Err}
 use Rattle.tc_sparkle_aead.specs.declared.engine.SparkleEngine.{SparkleEngine}
-use Rattle.tc_sparkle_aead.specs.Checks.{keep, heldIn, then, room, updateLen, dataCheck}
+use Rattle.tc_aead_cipher.specs.Checks.{keep, heldIn, then, room, updateLen, dataCheck}
 use Rattle.tc_sparkle_aead.specs.Calls.{stateIn, heldCount, blocks, plainOf, streamOut, written, atPoint, withoutHeader, afterHeader, begun, begunSteps, beginBy, beginData, dataFrom, dataIn, dataOut, dataBy, dataOutBy, dataAnswer, processBytes, processBytesOut}
 use Rattle.tc_sparkle_aead.proofs.Fill.{length-zeros}
-use Rattle.tc_sparkle_aead.proofs.VariantLaws.{Small}
+use Rattle.tc_aead_cipher.proofs.VariantLaws.{Small}
 use Rattle.tc_sparkle_aead.proofs.BeginLaws.{begin-at, begin-current, begin-variant}
 use Rattle.tc_sparkle_aead.proofs.CallLaws.{stream-is, length-stream}
 

@@ -10,19 +10,19 @@ use borrow.Author.Tests.{ltb-false}
 use lib.ListN.{length}
 use Rattle.schwaemm.specs.Bytes.{same}
 use Rattle.schwaemm.specs.Schwaemm.{Params}
-use Rattle.tc_sparkle_aead.specs.declared.phase.Direction.{Direction}
-use Rattle.tc_sparkle_aead.specs.declared.phase.Direction.the-variants.{Encrypt, Decrypt}
-use Rattle.tc_sparkle_aead.specs.declared.phase.Phase.{Phase}
-use Rattle.tc_sparkle_aead.specs.declared.phase.Phase.the-variants.{Uninitialized, Init, Aad, Data, Final}
-use Rattle.tc_sparkle_aead.specs.declared.aead_error.AeadError.{AeadError}
-use Rattle.tc_sparkle_aead.specs.declared.aead_error.AeadResult.{AeadResult}
-use Rattle.tc_sparkle_aead.specs.declared.aead_error.AeadResult.the-variants.{Ok, Err}
+use Rattle.tc_aead_cipher.specs.declared.phase.Direction.{Direction}
+use Rattle.tc_aead_cipher.specs.declared.phase.Direction.the-variants.{Encrypt, Decrypt}
+use Rattle.tc_aead_cipher.specs.declared.phase.Phase.{Phase}
+use Rattle.tc_aead_cipher.specs.declared.phase.Phase.the-variants.{Uninitialized, Init, Aad, Data, Final}
+use Rattle.tc_aead_cipher.specs.declared.aead_error.AeadError.{AeadError}
+use Rattle.tc_aead_cipher.specs.declared.aead_error.AeadResult.{AeadResult}
+use Rattle.tc_aead_cipher.specs.declared.aead_error.AeadResult.the-variants.{Ok, Err}
 use Rattle.tc_sparkle_aead.specs.declared.engine.Point.{Point}
 use Rattle.tc_sparkle_aead.specs.declared.engine.End.{End}
 use Rattle.tc_sparkle_aead.specs.declared.engine.Done.{Done}
 use Rattle.tc_sparkle_aead.specs.declared.engine.SparkleEngine.{SparkleEngine}
-use Rattle.tc_sparkle_aead.specs.Variant.{paramsOf}
-use Rattle.tc_sparkle_aead.specs.Checks.{opening, keep, heldIn, then, within64, room, phaseCheck, totalLen, whole, endCheck}
+use Rattle.tc_aead_cipher.specs.Variant.{paramsOf}
+use Rattle.tc_aead_cipher.specs.Checks.{opening, keep, heldIn, then, within64, room, phaseCheck, totalLen, whole, endCheck}
 use Rattle.tc_sparkle_aead.specs.Engine.{noMac, currentKey}
 use Rattle.tc_sparkle_aead.specs.Calls.{heldCount, atPoint, begun, begunSteps, beginData, written, messageAt, sealLast, sealTag, sealEnd, openBlock, openLast, receivedTag, openTag, ended, endedBy, readable, answered, sealedEnd, openedEnd, openEnd, openEndBy, openEndOutBy, finalBy, finalOutBy, finalAnswer, doFinal, doFinalOut}
 use Rattle.tc_sparkle_aead.proofs.BeginLaws.{begun-held, begin-ended, begin-message}

@@ -10,7 +10,7 @@ use Rattle.schwaemm.specs.Schwaemm.{Params, Sizes, mix, padded, domain, withDom
 use Rattle.schwaemm.proofs.States.{stateLength, length-padded, padded-short, length-withDomain}
 use Rattle.tc_sparkle_aead.specs.Engine.{inArray}
 use Rattle.tc_sparkle_aead.specs.Calls.{stateIn, putState}
-use Rattle.tc_sparkle_aead.proofs.VariantLaws.{Small}
+use Rattle.tc_aead_cipher.proofs.VariantLaws.{Small}
 use Rattle.tc_sparkle_aead.proofs.StateLaws.{all-inArray, inArray-zeros, state-put, put-put, state-fits, length-stateIn}
 
 module _ (p : Params) (h : Sizes p) (f : Small p) where

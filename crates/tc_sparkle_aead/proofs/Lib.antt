@@ -1,7 +1,5 @@
 -- The laws that the proofs of `tc_sparkle_aead`, and of the crates above it, cite.
-pub mod VariantLaws
-pub mod CheckLaws
-pub mod PhaseLaws
+pub mod ResetLaws
 pub mod BeginLaws
 pub mod Fill
 pub mod SameLaws
@@ -14,7 +12,7 @@ pub mod StartLaws
 pub mod TagLaws
 pub mod CallLaws
 pub mod HeaderLaws
-pub mod StartCheckLaws
+pub mod InitLaws
 pub mod DataLaws
 pub mod EndLaws
 pub mod FinalLaws

@@ -11,7 +11,7 @@ use Rattle.schwaemm.proofs.ByteWords.{toWords-append, length-toWords}
 use Rattle.schwaemm.proofs.States.{stateLength, length-initialise}
 use Rattle.tc_sparkle_aead.specs.Engine.{inArray}
 use Rattle.tc_sparkle_aead.specs.Calls.{stateIn, putState}
-use Rattle.tc_sparkle_aead.proofs.VariantLaws.{Small}
+use Rattle.tc_aead_cipher.proofs.VariantLaws.{Small}
 use Rattle.tc_sparkle_aead.proofs.StateLaws.{all-inArray, inArray-zeros, state-fits}
 
 module _ (nonce key : List ℕ) (n : ℕ) (hn : n * 4 ≡ length nonce) where

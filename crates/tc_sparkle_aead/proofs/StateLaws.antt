@@ -10,7 +10,7 @@ use Rattle.schwaemm.specs.Schwaemm.{Params, Sizes}
 use Rattle.schwaemm.proofs.States.{stateLength}
 use Rattle.tc_sparkle_aead.specs.Engine.{zeros, inArray}
 use Rattle.tc_sparkle_aead.specs.Calls.{stateIn, putState}
-use Rattle.tc_sparkle_aead.proofs.VariantLaws.{Small}
+use Rattle.tc_aead_cipher.proofs.VariantLaws.{Small}
 
 -- the first elements of a list in an array
 pub take-inArray : (m n : ℕ) (l : List ℕ) → m ≤ length l → m ≤ n → take m (inArray n l) ≡ take m l

@@ -10,21 +10,21 @@ use Rattle.sparkle.proofs.WorkedExamples.{ell-of-one, ell-of-two-halves}
 use Rattle.sparkle.specs.Words.{ell, rotr}
 use Rattle.schwaemm.specs.Blocks.{ready}
 use Rattle.schwaemm.specs.Schwaemm.{domain, leading, stepsOf, steps}
-use Rattle.tc_sparkle_aead.specs.Variant.{paramsOf}
-use Rattle.tc_sparkle_aead.specs.Refusals.{refusal}
-use Rattle.tc_sparkle_aead.specs.Checks.{updateLen, totalLen, endCheck}
+use Rattle.tc_aead_cipher.specs.Variant.{paramsOf}
+use Rattle.tc_aead_cipher.specs.Refusals.{refusal}
+use Rattle.tc_aead_cipher.specs.Checks.{updateLen, totalLen, endCheck}
 use Rattle.tc_sparkle_aead.specs.Engine.{noMessage, newEngine, repeats, updateOutputLen, outputLen}
 use Rattle.tc_sparkle_aead.specs.Calls.{streamed, headed, started, initBy, init, doFinal}
-use Rattle.tc_sparkle_aead.specs.declared.variant.SparkleVariant.{SparkleVariant}
-use Rattle.tc_sparkle_aead.specs.declared.variant.SparkleVariant.the-variants.{«Schwaemm128_128», «Schwaemm256_128», «Schwaemm192_192», «Schwaemm256_256»}
-use Rattle.tc_sparkle_aead.specs.declared.phase.Direction.the-variants.{Encrypt, Decrypt}
-use Rattle.tc_sparkle_aead.specs.declared.phase.Phase.{Phase}
-use Rattle.tc_sparkle_aead.specs.declared.phase.Phase.the-variants.{Uninitialized, Init, Aad}
+use Rattle.tc_aead_cipher.specs.declared.variant.SparkleVariant.{SparkleVariant}
+use Rattle.tc_aead_cipher.specs.declared.variant.SparkleVariant.the-variants.{«Schwaemm128_128», «Schwaemm256_128», «Schwaemm192_192», «Schwaemm256_256»}
+use Rattle.tc_aead_cipher.specs.declared.phase.Direction.the-variants.{Encrypt, Decrypt}
+use Rattle.tc_aead_cipher.specs.declared.phase.Phase.{Phase}
+use Rattle.tc_aead_cipher.specs.declared.phase.Phase.the-variants.{Uninitialized, Init, Aad}
 use Rattle.tc_sparkle_aead.specs.declared.engine.SparkleEngine.{SparkleEngine}
-use Rattle.tc_sparkle_aead.specs.declared.aead_error.AeadError.the-variants.{CiphertextTooShort, InputTooLong}
-use Rattle.tc_sparkle_aead.specs.declared.aead_error.AeadResult.the-variants.{Ok, Err}
-use Rattle.tc_sparkle_aead.specs.declared.aead_init_error.AeadInitResult.{AeadInitResult}
-use Rattle.tc_sparkle_aead.proofs.CheckLaws.{startCheck-opening}
+use Rattle.tc_aead_cipher.specs.declared.aead_error.AeadError.the-variants.{CiphertextTooShort, InputTooLong}
+use Rattle.tc_aead_cipher.specs.declared.aead_error.AeadResult.the-variants.{Ok, Err}
+use Rattle.tc_aead_cipher.specs.declared.aead_init_error.AeadInitResult.{AeadInitResult}
+use Rattle.tc_aead_cipher.proofs.CheckLaws.{startCheck-opening}
 
 -- An engine of a variant that stands in a phase, whatever else it holds.
 pub record In (v : SparkleVariant) (phase : Phase) (e : SparkleEngine) : Type 0 where

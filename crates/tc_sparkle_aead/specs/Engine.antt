@@ -6,16 +6,16 @@ use mathlib.Core.List.{List, _++_}
 use lib.ListN.{take, replicate}
 use Rattle.schwaemm.specs.Bytes.{same}
 use Rattle.schwaemm.specs.Schwaemm.{Params}
-use Rattle.tc_sparkle_aead.specs.declared.variant.SparkleVariant.{SparkleVariant}
-use Rattle.tc_sparkle_aead.specs.declared.aead_error.AeadResult.{AeadResult}
-use Rattle.tc_sparkle_aead.specs.declared.phase.Phase.the-variants.{Uninitialized}
+use Rattle.tc_aead_cipher.specs.declared.variant.SparkleVariant.{SparkleVariant}
+use Rattle.tc_aead_cipher.specs.declared.aead_error.AeadResult.{AeadResult}
+use Rattle.tc_aead_cipher.specs.declared.phase.Phase.the-variants.{Uninitialized}
 use Rattle.tc_sparkle_aead.specs.declared.engine.Point.{Point}
 use Rattle.tc_sparkle_aead.specs.declared.engine.Pair.{Pair}
 use Rattle.tc_sparkle_aead.specs.declared.engine.Mac.{Mac}
 use Rattle.tc_sparkle_aead.specs.declared.engine.Steps.{Steps}
 use Rattle.tc_sparkle_aead.specs.declared.engine.SparkleEngine.{SparkleEngine}
-use Rattle.tc_sparkle_aead.specs.Variant.{paramsOf}
-use Rattle.tc_sparkle_aead.specs.Checks.{updateLen, totalLen}
+use Rattle.tc_aead_cipher.specs.Variant.{paramsOf}
+use Rattle.tc_aead_cipher.specs.Checks.{updateLen, totalLen}
 
 -- n zeros, and a list in an array of n: zeros behind it, and cut where it is longer.
 unfoldable pub zeros : ℕ → List ℕ

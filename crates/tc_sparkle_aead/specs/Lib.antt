@@ -1,6 +1,4 @@
--- The definitions that the engine's contracts cite.
-pub mod Variant
-pub mod Refusals
-pub mod Checks
+-- The definitions that the engine's contracts cite, and the lists of calls made of them.
 pub mod Engine
 pub mod Calls
+pub mod Sheet

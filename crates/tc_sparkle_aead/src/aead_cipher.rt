@@ -4,16 +4,16 @@
 ghost use mathlib.Core.Path.{_≡_};
 ghost use Rattle.tc_sparkle_aead.specs.Engine.{updateOutputLen, outputLen};
 ghost use Rattle.tc_sparkle_aead.specs.Calls.{init, processAadBytes, processBytes, processBytesOut, doFinal, doFinalOut, reset, macOf, stepsNow};
-use super::aead_error::AeadResult;
-use super::aead_init_error::AeadInitResult;
-use super::checks;
+use tc_aead_cipher::aead_error::AeadResult;
+use tc_aead_cipher::aead_init_error::AeadInitResult;
+use tc_aead_cipher::checks;
 use super::engine;
 use super::engine::Done;
 use super::engine::Mac;
 use super::engine::SparkleEngine;
 use super::engine::Started;
 use super::engine::Steps;
-use super::phase::Direction;
+use tc_aead_cipher::phase::Direction;
 
 // Ends the old message and starts a new one.
 pub fn init(

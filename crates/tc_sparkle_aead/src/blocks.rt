@@ -9,10 +9,10 @@ ghost use lib.Seq.{paste};
 ghost use Rattle.schwaemm.specs.Bytes.{toWords, toBytes, same};
 ghost use Rattle.schwaemm.specs.Blocks.{after, given};
 ghost use Rattle.schwaemm.specs.Schwaemm.{permute, mix, crypt, padded, domain, withDomain, mixLast, initialise, absorbBlock, messageBlock, opening, tagOf};
-ghost use Rattle.tc_sparkle_aead.specs.Variant.{paramsOf};
+ghost use Rattle.tc_aead_cipher.specs.Variant.{paramsOf};
 ghost use Rattle.tc_sparkle_aead.specs.Engine.{inArray};
 ghost use Rattle.tc_sparkle_aead.specs.Calls.{stateIn, putState, feedbackAt, whiteningAt, plainBy};
-use super::variant::SparkleVariant;
+use tc_aead_cipher::variant::SparkleVariant;
 use sparkle::scalar::StateWords;
 
 // ---- bytes

@@ -1,7 +1,7 @@
 // The engine (the Rust's engine.rs): its data, by value. Fields are private: only this crate's calls
 // make and change an engine.
 ghost use mathlib.Core.Path.{_≡_};
-ghost use Rattle.tc_sparkle_aead.specs.Variant.{paramsOf};
+ghost use Rattle.tc_aead_cipher.specs.Variant.{paramsOf};
 ghost use mathlib.Core.List.{_++_};
 ghost use Prim.Native.Nat.{_+_, _*_, _≤_, _<_};
 ghost use mathlib.Core.Bool.{cond};
@@ -9,17 +9,17 @@ ghost use lib.Dec.{ltb};
 ghost use lib.ListN.{length, take};
 ghost use Rattle.schwaemm.specs.Bytes.{same};
 ghost use Rattle.schwaemm.specs.Schwaemm.{messageBlock};
-ghost use Rattle.tc_sparkle_aead.specs.Checks.{keep};
+ghost use Rattle.tc_aead_cipher.specs.Checks.{keep};
 ghost use Rattle.tc_sparkle_aead.specs.Engine.{noMessage, noMac, newEngine, repeats, remember};
 ghost use Rattle.tc_sparkle_aead.specs.Calls.{heldCount, blocks, streamed, addSteps, atPoint, refused, startPoint, headed, headedSteps, started, begun, begunSteps, streamOut, afterHeader, withoutHeader, plainOf, dataFrom, written, finalPoint, stateIn, putState, lastState, messageAt, sealLast, sealTag, receivedTag, openTag, answered, endedBy, sealedEnd, openedEnd, openEndOutBy, resetPoint};
-use super::aead_error::AeadError;
-use super::aead_error::AeadResult;
-use super::aead_init_error::AeadInitResult;
+use tc_aead_cipher::aead_error::AeadError;
+use tc_aead_cipher::aead_error::AeadResult;
+use tc_aead_cipher::aead_init_error::AeadInitResult;
 use super::blocks;
-use super::checks;
-use super::phase::Direction;
-use super::phase::Phase;
-use super::variant::SparkleVariant;
+use tc_aead_cipher::checks;
+use tc_aead_cipher::phase::Direction;
+use tc_aead_cipher::phase::Phase;
+use tc_aead_cipher::variant::SparkleVariant;
 
 // A point of a message: the phase, the state's words, the bytes that are held and how many they are.
 // Words and bytes beyond the state's and the held ones are 0.

@@ -5,7 +5,9 @@ use Prim.Native.Nat.{ℕ, _+_, _-_, _≤_}
 use lib.ListN.{length, take, drop}
 use Rattle.tc_sparkle_aead.specs.declared.engine.Done.{Done}
 use Rattle.tc_sparkle_aead.specs.Calls.{doFinal, doFinalOut, macOf, stepsNow}
-use Rattle.claims.specs.Call.{Call, step, outcome}
+use Rattle.tc_aead_cipher.specs.Call.{Call}
+use Rattle.tc_sparkle_aead.specs.Sheet.{step}
+use Rattle.tc_aead_cipher.specs.Outcome.{outcome}
 use Rattle.host.specs.Reply.{replyOf}
 use Rattle.host.specs.CallList.{thirdRun, shown, shownCount, answerHead}
 use Rattle.host.proofs.AnswerLaws.{length-third, third-lent, third-back, answer-whole}

@@ -2,7 +2,9 @@
 use mathlib.Core.Path.{_≡_, refl, ap, _∙_}
 use lib.ListN.{drop}
 use Rattle.tc_sparkle_aead.specs.declared.engine.Started.{Started}
-use Rattle.claims.specs.Call.{Call, step, startOutcome}
+use Rattle.tc_aead_cipher.specs.Call.{Call}
+use Rattle.tc_sparkle_aead.specs.Sheet.{step}
+use Rattle.tc_aead_cipher.specs.Outcome.{startOutcome}
 use Rattle.host.specs.Reply.{replyOf}
 use Rattle.host.specs.CallList.{firstRun, secondRun, thirdRun, shown, shownCount}
 use Rattle.host.proofs.AnswerLaws.{start-said, answer-whole}

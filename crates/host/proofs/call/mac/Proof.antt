@@ -4,7 +4,9 @@ use mathlib.Core.List.{_++_}
 use Prim.Native.Nat.{ℕ}
 use lib.ListN.{drop}
 use Rattle.tc_sparkle_aead.specs.declared.engine.Mac.{Mac}
-use Rattle.claims.specs.Call.{Call, Outcome, step}
+use Rattle.tc_aead_cipher.specs.Call.{Call}
+use Rattle.tc_aead_cipher.specs.Outcome.{Outcome}
+use Rattle.tc_sparkle_aead.specs.Sheet.{step}
 use Rattle.host.specs.Reply.{replyOf}
 use Rattle.host.specs.CallList.{shown, shownCount}
 use Rattle.host.proofs.AnswerLaws.{answer-whole}

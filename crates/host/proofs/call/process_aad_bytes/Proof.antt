@@ -3,7 +3,9 @@ use mathlib.Core.Path.{_≡_, refl, ap, _∙_}
 use lib.ListN.{drop}
 use Rattle.tc_sparkle_aead.specs.declared.engine.Done.{Done}
 use Rattle.tc_sparkle_aead.specs.Calls.{processAadBytes}
-use Rattle.claims.specs.Call.{Call, step, outcome}
+use Rattle.tc_aead_cipher.specs.Call.{Call}
+use Rattle.tc_sparkle_aead.specs.Sheet.{step}
+use Rattle.tc_aead_cipher.specs.Outcome.{outcome}
 use Rattle.host.specs.Reply.{replyOf}
 use Rattle.host.specs.CallList.{firstRun, shown, shownCount}
 use Rattle.host.proofs.AnswerLaws.{first-part, answer-whole}

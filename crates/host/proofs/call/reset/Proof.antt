@@ -1,7 +1,8 @@
 -- A reset answers 0.
 use mathlib.Core.Path.{refl}
 use lib.ListN.{drop}
-use Rattle.claims.specs.Call.{Call, step}
+use Rattle.tc_aead_cipher.specs.Call.{Call}
+use Rattle.tc_sparkle_aead.specs.Sheet.{step}
 use Rattle.host.specs.CallList.{shown, shownCount}
 use Rattle.host.proofs.AnswerLaws.{answer-whole}
 use borrow.Author.Needs.{needs}

@@ -4,7 +4,7 @@ use mathlib.Core.Bool.{Bool, cond}
 use Prim.Native.Nat.{ℕ}
 use borrow.Author.Needs.{needs}
 use Rattle.tc_sparkle_aead.specs.declared.engine.Mac.{Mac}
-use Rattle.tc_sparkle_aead.specs.Variant.{paramsOf}
+use Rattle.tc_aead_cipher.specs.Variant.{paramsOf}
 use Rattle.host.proofs.call.tag_len.Statement.{statement}
 use Rattle.host.proofs.call.tag_len.Tie as tie
 

@@ -1,7 +1,7 @@
 -- The data call, and where it is not refused the end.
 use mathlib.Core.Path.{sym, ap, _∙_}
 use native.Mathlib.Omega.{arith}
-use Rattle.tc_sparkle_aead.specs.declared.aead_error.AeadResult.the-variants.{Ok, Err}
+use Rattle.tc_aead_cipher.specs.declared.aead_error.AeadResult.the-variants.{Ok, Err}
 use Rattle.packet.specs.Packet.{Packed}
 use Rattle.packet.proofs.PacketLaws.{data-bound, data-packet}
 use borrow.Author.Needs.{needs}

@@ -1,7 +1,7 @@
 -- The end, behind what the data call wrote.
 use mathlib.Core.Path.{sym, _∙_}
 use native.Mathlib.Omega.{arith}
-use Rattle.tc_sparkle_aead.specs.declared.aead_error.AeadResult.the-variants.{Ok, Err}
+use Rattle.tc_aead_cipher.specs.declared.aead_error.AeadResult.the-variants.{Ok, Err}
 use Rattle.packet.proofs.PacketLaws.{end-bound, end-reply, end-out}
 use borrow.Author.Needs.{needs}
 use Rattle.packet.proofs.packet.end.Statement.{statement}

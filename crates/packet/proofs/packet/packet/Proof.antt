@@ -1,7 +1,7 @@
 -- The start on a new engine, and where it is not refused the data call.
 use mathlib.Core.Path.{sym, ap, _∙_}
 use borrow.Author.Tests.{not-true, not-false}
-use Rattle.tc_sparkle_aead.specs.declared.aead_init_error.AeadInitResult.the-variants.{Ok as Started, Err as Refused}
+use Rattle.tc_aead_cipher.specs.declared.aead_init_error.AeadInitResult.the-variants.{Ok as Started, Err as Refused}
 use Rattle.packet.specs.Packet.{Packed}
 use Rattle.packet.proofs.PacketLaws.{start-packet, no-variant}
 use borrow.Author.Needs.{needs}

@@ -1,15 +1,15 @@
 -- `sheet::lent::mac` meets its contract: a query of an engine that is lent.
 -- Assumes nothing.
-use Rattle.tc_aead_cipher.proofs.Lent.{tripleOf, givenOf, tables, entered, cited}
+use Rattle.entry_calls.proofs.Lent.{tripleOf, givenOf, tables, entered, cited}
 use Rattle.sheet.proofs.OwnQuery.{own-query}
 use contract.Running.{tablesOf}
 use denote.Struct.Laws as LL
 use Rattle.tc_sparkle_aead.specs.Calls.{macOf}
 use Rattle.tc_sparkle_aead.proofs.engine.Mac as T
 use Rattle.tc_sparkle_aead.proofs.engine.Mac.Laws as T′
-use Rattle.tc_aead_cipher.proofs.aead_cipher.mac as g
-use Rattle.tc_aead_cipher.proofs.aead_cipher.mac.Symbol as g-def
-use Rattle.tc_aead_cipher.proofs.aead_cipher.mac.Met as g-thm
+use Rattle.entry_calls.proofs.aead_cipher.mac as g
+use Rattle.entry_calls.proofs.aead_cipher.mac.Symbol as g-def
+use Rattle.entry_calls.proofs.aead_cipher.mac.Met as g-thm
 use Rattle.sheet.proofs.lent.mac.Key.{name}
 use Rattle.sheet.proofs.lent.mac as f
 use Rattle.sheet.proofs.lent.mac.Statement as stated

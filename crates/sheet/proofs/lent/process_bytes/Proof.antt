@@ -1,7 +1,7 @@
 -- `sheet::lent::process_bytes` meets its contract: a walk of its MIR. The engine is copied to a local and lent for a lifetime that the
 -- walk makes, and comes back with its last value. Of the call over a lent engine the proof knows only that it meets its contract.
 -- Assumes nothing.
-use Rattle.tc_aead_cipher.proofs.Lent.{_≡_, refl, List, [], _∷_, ℕ, length, URA, fullShare, named, Val, vptr, SProp, ent, Fml, GName, Lft, Share, ftrue, flft, fat, Memory, Routine, Heap, Calls, Loops, WpFn, Tables, Atoms, Fun, fact, givenOf, tables, Given, Item, ‵, raw, some, later, _⊛_, ⋆, _$_, _∵_, !, qed, by, move, drop, use1, use2, split, join, pick, rewrite, fsplit, fjoin, feqL, suffices, frame, await, done, look, init, forget, stop, hop, fld, from, load, addr, of-opd, and-then, no-more, assigns, land, returns, enter, alloc1, alloc0, params1, pass1, pass0, free1, free0, agg, whole, sub, look-in, FmC, owns, Is, shows, u8, RefT, MutRef, plain, finally, MutSlice, ShrSlice, slice-vals, shr-slice-tells, shr-slice-lawful, shr-slice-copy, mut-slice-tells, mut-slice-lawful, owned, peeks, heard, nothing, onEntry, tripleOf, Contract, Triple, calls-at, ensured, lasts, entered, cited, says, Stays, stay-none, stay-none-slice, gave-slice, walkOf, goes-none, goes-none-slice, goes-gave-slice, ends-at, yes, id⊢, SparkleEngine, Done, AeadResult, R, e-vals, n-val, slice, e-typed, d-typed, n-typed, e-owned, meets, Meets, lends, back, both, e-val, n-is, d-is, e-spelled, n-spelled, only}
+use Rattle.entry_calls.proofs.Lent.{_≡_, refl, List, [], _∷_, ℕ, length, URA, fullShare, named, Val, vptr, SProp, ent, Fml, GName, Lft, Share, ftrue, flft, fat, Memory, Routine, Heap, Calls, Loops, WpFn, Tables, Atoms, Fun, fact, givenOf, tables, Given, Item, ‵, raw, some, later, _⊛_, ⋆, _$_, _∵_, !, qed, by, move, drop, use1, use2, split, join, pick, rewrite, fsplit, fjoin, feqL, suffices, frame, await, done, look, init, forget, stop, hop, fld, from, load, addr, of-opd, and-then, no-more, assigns, land, returns, enter, alloc1, alloc0, params1, pass1, pass0, free1, free0, agg, whole, sub, look-in, FmC, owns, Is, shows, u8, RefT, MutRef, plain, finally, MutSlice, ShrSlice, slice-vals, shr-slice-tells, shr-slice-lawful, shr-slice-copy, mut-slice-tells, mut-slice-lawful, owned, peeks, heard, nothing, onEntry, tripleOf, Contract, Triple, calls-at, ensured, lasts, entered, cited, says, Stays, stay-none, stay-none-slice, gave-slice, walkOf, goes-none, goes-none-slice, goes-gave-slice, ends-at, yes, id⊢, SparkleEngine, Done, AeadResult, R, e-vals, n-val, slice, e-typed, d-typed, n-typed, e-owned, meets, Meets, lends, back, both, e-val, n-is, d-is, e-spelled, n-spelled, only}
 use mathlib.Core.Path.{ap}
 use mir.Val.{vstruct}
 use contract.Running.{tablesOf}
@@ -11,9 +11,9 @@ use Rattle.tc_sparkle_aead.proofs.engine.Done as D
 use Rattle.tc_sparkle_aead.proofs.engine.Done.Laws as D′
 use Rattle.tc_sparkle_aead.proofs.aead_error.AeadResult as N
 use Rattle.tc_sparkle_aead.proofs.aead_error.AeadResult.Laws as N′
-use Rattle.tc_aead_cipher.proofs.aead_cipher.process_bytes as g
-use Rattle.tc_aead_cipher.proofs.aead_cipher.process_bytes.Symbol as g-def
-use Rattle.tc_aead_cipher.proofs.aead_cipher.process_bytes.Met as g-thm
+use Rattle.entry_calls.proofs.aead_cipher.process_bytes as g
+use Rattle.entry_calls.proofs.aead_cipher.process_bytes.Symbol as g-def
+use Rattle.entry_calls.proofs.aead_cipher.process_bytes.Met as g-thm
 use Rattle.sheet.proofs.lent.process_bytes.Key.{name}
 use Rattle.sheet.proofs.lent.process_bytes as f
 use Rattle.sheet.proofs.lent.process_bytes.Statement as stated

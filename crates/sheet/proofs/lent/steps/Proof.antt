@@ -1,14 +1,14 @@
 -- `sheet::lent::steps` meets its contract: a query of an engine that is lent.
 -- Assumes nothing.
-use Rattle.tc_aead_cipher.proofs.Lent.{tripleOf, givenOf, tables, entered, cited, uint-lawful, w64}
+use Rattle.entry_calls.proofs.Lent.{tripleOf, givenOf, tables, entered, cited, uint-lawful, w64}
 use Rattle.sheet.proofs.OwnQuery.{own-query}
 use contract.Running.{tablesOf}
 use mir.Syntax.{tyInt}
 use denote.Builtin.{u64}
 use Rattle.tc_sparkle_aead.specs.Calls.{stepsNow}
-use Rattle.tc_aead_cipher.proofs.aead_cipher.steps as g
-use Rattle.tc_aead_cipher.proofs.aead_cipher.steps.Symbol as g-def
-use Rattle.tc_aead_cipher.proofs.aead_cipher.steps.Met as g-thm
+use Rattle.entry_calls.proofs.aead_cipher.steps as g
+use Rattle.entry_calls.proofs.aead_cipher.steps.Symbol as g-def
+use Rattle.entry_calls.proofs.aead_cipher.steps.Met as g-thm
 use Rattle.sheet.proofs.lent.steps.Key.{name}
 use Rattle.sheet.proofs.lent.steps as f
 use Rattle.sheet.proofs.lent.steps.Statement as stated

@@ -1,6 +1,7 @@
 -- `init` goes by its check; a start that passes has the variant's lengths.
 use mathlib.Core.Path.{sym, _∙_}
-use Rattle.tc_sparkle_aead.proofs.StartCheckLaws.{startCheck-lengths, started-by-variant, init-taken, init-refused}
+use Rattle.tc_aead_cipher.proofs.CheckLaws.{startCheck-lengths}
+use Rattle.tc_sparkle_aead.proofs.InitLaws.{started-by-variant, init-taken, init-refused}
 use borrow.Author.Needs.{needs}
 use Rattle.tc_sparkle_aead.proofs.aead_cipher.init.Statement.{statement}
 use Rattle.tc_sparkle_aead.proofs.aead_cipher.init.Tie as tie

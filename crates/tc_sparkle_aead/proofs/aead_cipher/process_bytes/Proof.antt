@@ -2,9 +2,9 @@
 use mathlib.Core.Path.{_≡_, refl, sym, _∙_}
 use lib.ListN.{length}
 use borrow.Author.Needs.{needs}
-use Rattle.tc_sparkle_aead.specs.Variant.{paramsOf}
+use Rattle.tc_aead_cipher.specs.Variant.{paramsOf}
 use Rattle.tc_sparkle_aead.specs.Calls.{atPoint}
-use Rattle.tc_sparkle_aead.proofs.VariantLaws.{small}
+use Rattle.tc_aead_cipher.proofs.VariantLaws.{small}
 use Rattle.tc_sparkle_aead.proofs.DataLaws.{data-room, data-refused, data-refused-out, data-taken, data-taken-out}
 use Rattle.tc_sparkle_aead.proofs.aead_cipher.process_bytes.Statement.{statement}
 use Rattle.tc_sparkle_aead.proofs.aead_cipher.process_bytes.Tie as tie

@@ -3,8 +3,8 @@ use mathlib.Core.List.{_++_}
 use native.Mathlib.Omega.{arith}
 use lib.ListN.{take}
 use Rattle.schwaemm.specs.Schwaemm.{absorbBlock}
-use Rattle.tc_sparkle_aead.specs.Variant.{paramsOf}
-use Rattle.tc_sparkle_aead.proofs.VariantLaws.{sizes, small}
+use Rattle.tc_aead_cipher.specs.Variant.{paramsOf}
+use Rattle.tc_aead_cipher.proofs.VariantLaws.{sizes, small}
 use Rattle.tc_sparkle_aead.proofs.BlockRuns.{Run, length-stream, run-start, run-end, run-fits, absorb-turn}
 use Rattle.tc_sparkle_aead.proofs.blocks.absorb_blocks.Statement.{statement}
 use Rattle.tc_sparkle_aead.proofs.blocks.absorb_blocks.Tie as tie

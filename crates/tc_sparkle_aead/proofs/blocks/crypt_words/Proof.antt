@@ -4,8 +4,8 @@ use lib.ListN.{take}
 use Rattle.sparkle.specs.Sparkle.{xors}
 use Rattle.sparkle.proofs.Tab.{tabbed}
 use Rattle.schwaemm.specs.Bytes.{toBytes}
-use Rattle.tc_sparkle_aead.specs.Variant.{paramsOf}
-use Rattle.tc_sparkle_aead.proofs.VariantLaws.{sizes}
+use Rattle.tc_aead_cipher.specs.Variant.{paramsOf}
+use Rattle.tc_aead_cipher.proofs.VariantLaws.{sizes}
 use Rattle.tc_sparkle_aead.proofs.MixLaws.{crypt-words}
 use borrow.Author.Needs.{needs}
 use Rattle.tc_sparkle_aead.proofs.blocks.crypt_words.Statement.{statement}

@@ -5,7 +5,7 @@ use Prim.Native.Nat.{_/_, _^_, _<_}
 use native.Mathlib.Omega.{arith}
 use lib.Bits.{xor-lt}
 use Rattle.schwaemm.specs.Schwaemm.{domain}
-use Rattle.tc_sparkle_aead.specs.Variant.{paramsOf}
+use Rattle.tc_aead_cipher.specs.Variant.{paramsOf}
 use borrow.Author.Needs.{needs}
 use Rattle.tc_sparkle_aead.proofs.blocks.domain_constant.Statement.{statement}
 use Rattle.tc_sparkle_aead.proofs.blocks.domain_constant.Tie as tie

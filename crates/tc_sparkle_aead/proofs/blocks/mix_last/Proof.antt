@@ -1,8 +1,8 @@
 -- `mix_last` meets its contract: the padded block and the state with its constant make `mixLast`.
 use native.Mathlib.Omega.{arith}
 use lib.Seq.{length-take-le}
-use Rattle.tc_sparkle_aead.specs.Variant.{paramsOf}
-use Rattle.tc_sparkle_aead.proofs.VariantLaws.{sizes, small}
+use Rattle.tc_aead_cipher.specs.Variant.{paramsOf}
+use Rattle.tc_aead_cipher.proofs.VariantLaws.{sizes, small}
 use Rattle.schwaemm.proofs.States.{lastV-short, lastV-full}
 use Rattle.tc_sparkle_aead.proofs.LastBlock.{put-mixLast}
 use borrow.Author.Needs.{needs}

@@ -5,9 +5,9 @@ use lib.ListN.{length, take, set}
 use lib.Seq.{length-take-le}
 use borrow.Author.Needs.{needs}
 use Rattle.schwaemm.proofs.States.{padded-full}
-use Rattle.tc_sparkle_aead.specs.Variant.{paramsOf}
+use Rattle.tc_aead_cipher.specs.Variant.{paramsOf}
 use Rattle.tc_sparkle_aead.specs.Engine.{inArray}
-use Rattle.tc_sparkle_aead.proofs.VariantLaws.{sizes, small}
+use Rattle.tc_aead_cipher.proofs.VariantLaws.{sizes, small}
 use Rattle.tc_sparkle_aead.proofs.LastBlock.{set-padded}
 use Rattle.tc_sparkle_aead.proofs.blocks.pad.Statement.{statement}
 use Rattle.tc_sparkle_aead.proofs.blocks.pad.Tie as tie

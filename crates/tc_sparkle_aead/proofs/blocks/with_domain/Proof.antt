@@ -1,8 +1,8 @@
 -- `with_domain` meets its contract: the word that is changed is the state's last.
 use mathlib.Core.Path.{refl}
 use native.Mathlib.Omega.{arith}
-use Rattle.tc_sparkle_aead.specs.Variant.{paramsOf}
-use Rattle.tc_sparkle_aead.proofs.VariantLaws.{sizes, small}
+use Rattle.tc_aead_cipher.specs.Variant.{paramsOf}
+use Rattle.tc_aead_cipher.proofs.VariantLaws.{sizes, small}
 use Rattle.tc_sparkle_aead.proofs.LastBlock.{put-domain}
 use borrow.Author.Needs.{needs}
 use Rattle.tc_sparkle_aead.proofs.blocks.with_domain.Statement.{statement}

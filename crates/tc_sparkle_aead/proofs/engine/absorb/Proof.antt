@@ -7,9 +7,9 @@ use borrow.Author.Needs.{needs}
 use Rattle.tc_sparkle_aead.proofs.HeaderLaws.{headed-none, headed-some}
 use Rattle.tc_sparkle_aead.proofs.CallLaws.{heldCount-bound, streamed-rate, gone-bound, rest-bound}
 use Rattle.schwaemm.specs.Schwaemm.{absorbBlock}
-use Rattle.tc_sparkle_aead.specs.declared.phase.Phase.the-variants.{Aad}
-use Rattle.tc_sparkle_aead.specs.Variant.{paramsOf}
-use Rattle.tc_sparkle_aead.proofs.VariantLaws.{sizes, small}
+use Rattle.tc_aead_cipher.specs.declared.phase.Phase.the-variants.{Aad}
+use Rattle.tc_aead_cipher.specs.Variant.{paramsOf}
+use Rattle.tc_aead_cipher.proofs.VariantLaws.{sizes, small}
 use Rattle.tc_sparkle_aead.proofs.engine.absorb.Statement.{statement}
 use Rattle.tc_sparkle_aead.proofs.engine.absorb.Tie as tie
 

@@ -1,6 +1,6 @@
 -- `begin_data` goes by the phase.
 use borrow.Author.Needs.{needs}
-use Rattle.tc_sparkle_aead.specs.Variant.{paramsOf}
+use Rattle.tc_aead_cipher.specs.Variant.{paramsOf}
 use Rattle.tc_sparkle_aead.proofs.BeginLaws.{begun-init, begun-aad, begun-kept}
 use Rattle.tc_sparkle_aead.proofs.engine.begin_data.Statement.{statement}
 use Rattle.tc_sparkle_aead.proofs.engine.begin_data.Tie as tie

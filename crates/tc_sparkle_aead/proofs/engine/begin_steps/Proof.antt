@@ -1,6 +1,6 @@
 -- `begin_steps` runs steps where there is a header, and none elsewhere.
 use borrow.Author.Needs.{needs}
-use Rattle.tc_sparkle_aead.specs.Variant.{paramsOf}
+use Rattle.tc_aead_cipher.specs.Variant.{paramsOf}
 use Rattle.tc_sparkle_aead.proofs.BeginLaws.{begun-without-steps}
 use Rattle.tc_sparkle_aead.proofs.engine.begin_steps.Statement.{statement}
 use Rattle.tc_sparkle_aead.proofs.engine.begin_steps.Tie as tie

@@ -4,12 +4,12 @@ use Prim.Native.Nat.{_*_}
 use native.Mathlib.Omega.{arith}
 use lib.ListN.{length}
 use borrow.Author.Needs.{needs}
-use Rattle.tc_sparkle_aead.proofs.VariantLaws.{sizes, small}
+use Rattle.tc_aead_cipher.proofs.VariantLaws.{sizes, small}
 use Rattle.tc_sparkle_aead.proofs.DataLaws.{is-count}
 use Rattle.tc_sparkle_aead.proofs.HeaderLaws.{steps-fit}
 use Rattle.tc_sparkle_aead.specs.Calls.{blocks}
-use Rattle.tc_sparkle_aead.specs.Variant.{paramsOf}
-use Rattle.tc_sparkle_aead.specs.Checks.{keep}
+use Rattle.tc_aead_cipher.specs.Variant.{paramsOf}
+use Rattle.tc_aead_cipher.specs.Checks.{keep}
 use Rattle.tc_sparkle_aead.proofs.CallLaws.{heldCount-bound, gone-bound}
 use Rattle.tc_sparkle_aead.proofs.engine.data_in.Statement.{statement}
 use Rattle.tc_sparkle_aead.proofs.engine.data_in.Tie as tie

@@ -4,9 +4,9 @@ use Prim.Native.Nat.{_+_, _<_, _^_, _*_}
 use native.Mathlib.Omega.{arith}
 use lib.ListN.{length}
 use Rattle.schwaemm.specs.Schwaemm.{absorbBlock}
-use Rattle.tc_sparkle_aead.specs.Variant.{paramsOf}
+use Rattle.tc_aead_cipher.specs.Variant.{paramsOf}
 use Rattle.tc_sparkle_aead.specs.Calls.{headedSteps}
-use Rattle.tc_sparkle_aead.proofs.VariantLaws.{sizes, small}
+use Rattle.tc_aead_cipher.proofs.VariantLaws.{sizes, small}
 use Rattle.tc_sparkle_aead.proofs.CallLaws.{heldCount-bound, blocks-is, gone-bound}
 use Rattle.tc_sparkle_aead.proofs.HeaderLaws.{steps-fit}
 use borrow.Author.Needs.{needs}

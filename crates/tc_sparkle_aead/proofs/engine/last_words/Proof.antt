@@ -1,8 +1,8 @@
 -- `last_words` takes up the last block, where there is one.
 use native.Mathlib.Omega.{arith}
 use borrow.Author.Needs.{needs}
-use Rattle.tc_sparkle_aead.specs.Variant.{paramsOf}
-use Rattle.tc_sparkle_aead.proofs.VariantLaws.{small}
+use Rattle.tc_aead_cipher.specs.Variant.{paramsOf}
+use Rattle.tc_aead_cipher.proofs.VariantLaws.{small}
 use Rattle.tc_sparkle_aead.proofs.EndLaws.{put-last-none, put-last-some}
 use Rattle.tc_sparkle_aead.proofs.engine.last_words.Statement.{statement}
 use Rattle.tc_sparkle_aead.proofs.engine.last_words.Tie as tie

@@ -9,7 +9,7 @@ use lib.Seq.{take-take}
 use Rattle.schwaemm.specs.Bytes.{same}
 use Rattle.tc_sparkle_aead.specs.Engine.{zeros}
 use Rattle.tc_sparkle_aead.specs.Calls.{messageAt}
-use Rattle.tc_sparkle_aead.proofs.VariantLaws.{small}
+use Rattle.tc_aead_cipher.proofs.VariantLaws.{small}
 use Rattle.tc_sparkle_aead.proofs.EndLaws.{Opening, opening-is, opened, opened-out, unopened, unopened-out}
 use Rattle.tc_sparkle_aead.proofs.engine.open_end.Statement.{statement}
 use Rattle.tc_sparkle_aead.proofs.engine.open_end.Tie as tie

@@ -4,10 +4,10 @@ use mathlib.Core.Bool.{Bool, false, cond}
 use native.Mathlib.Omega.{arith}
 use lib.ListN.{length}
 use borrow.Author.Tests.{not-true, not-false}
-use Rattle.tc_sparkle_aead.specs.Variant.{paramsOf}
+use Rattle.tc_aead_cipher.specs.Variant.{paramsOf}
 use Rattle.tc_sparkle_aead.specs.Engine.{repeats}
-use Rattle.tc_sparkle_aead.proofs.VariantLaws.{small}
-use Rattle.tc_sparkle_aead.proofs.StartCheckLaws.{repeats-key, repeats-nonce, repeats-none, repeats-pair}
+use Rattle.tc_aead_cipher.proofs.VariantLaws.{small}
+use Rattle.tc_sparkle_aead.proofs.InitLaws.{repeats-key, repeats-nonce, repeats-none, repeats-pair}
 use borrow.Author.Needs.{needs}
 use Rattle.tc_sparkle_aead.proofs.engine.repeats.Statement.{statement}
 use Rattle.tc_sparkle_aead.proofs.engine.repeats.Tie as tie

@@ -1,9 +1,9 @@
 -- `reset_point` goes by the direction, then by the phase.
 use mathlib.Core.Path.{sym, ap, _∙_}
 use borrow.Author.Needs.{needs}
-use Rattle.tc_sparkle_aead.specs.declared.phase.Phase.{Phase}
+use Rattle.tc_aead_cipher.specs.declared.phase.Phase.{Phase}
 use Rattle.tc_sparkle_aead.specs.Calls.{resetPoint}
-use Rattle.tc_sparkle_aead.proofs.PhaseLaws.{reset-opening, reset-sealing}
+use Rattle.tc_sparkle_aead.proofs.ResetLaws.{reset-opening, reset-sealing}
 use Rattle.tc_sparkle_aead.proofs.engine.reset_point.Statement.{statement}
 use Rattle.tc_sparkle_aead.proofs.engine.reset_point.Tie as tie
 

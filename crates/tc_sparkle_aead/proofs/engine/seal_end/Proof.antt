@@ -4,7 +4,7 @@ use native.Mathlib.Omega.{arith}
 use borrow.Author.Needs.{needs}
 use lib.ListN.{length}
 use Rattle.tc_sparkle_aead.specs.Calls.{messageAt}
-use Rattle.tc_sparkle_aead.proofs.VariantLaws.{small}
+use Rattle.tc_aead_cipher.proofs.VariantLaws.{small}
 use Rattle.tc_sparkle_aead.proofs.EndLaws.{sealed, sealed-out}
 use Rattle.tc_sparkle_aead.proofs.engine.seal_end.Statement.{statement}
 use Rattle.tc_sparkle_aead.proofs.engine.seal_end.Tie as tie

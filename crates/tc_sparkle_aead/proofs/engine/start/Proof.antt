@@ -1,8 +1,8 @@
 -- `start` loads the pair, absorbs the header and counts the steps.
 use native.Mathlib.Omega.{arith}
 use Rattle.tc_sparkle_aead.specs.Engine.{newEngine}
-use Rattle.tc_sparkle_aead.proofs.VariantLaws.{small}
-use Rattle.tc_sparkle_aead.proofs.StartCheckLaws.{started-is}
+use Rattle.tc_aead_cipher.proofs.VariantLaws.{small}
+use Rattle.tc_sparkle_aead.proofs.InitLaws.{started-is}
 use borrow.Author.Needs.{needs}
 use Rattle.tc_sparkle_aead.proofs.engine.start.Statement.{statement}
 use Rattle.tc_sparkle_aead.proofs.engine.start.Tie as tie

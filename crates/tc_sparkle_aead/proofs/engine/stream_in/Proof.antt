@@ -4,15 +4,15 @@ use Prim.Native.Nat.{_+_, _*_, _≤_}
 use native.Mathlib.Omega.{arith}
 use lib.ListN.{length}
 use borrow.Author.Needs.{needs}
-use Rattle.tc_sparkle_aead.specs.Variant.{paramsOf}
+use Rattle.tc_aead_cipher.specs.Variant.{paramsOf}
 use Rattle.schwaemm.proofs.RoundTrip.{length-crypted-blocks}
 use Rattle.tc_sparkle_aead.proofs.CallLaws.{heldCount-bound, streamed-rate, gone-bound, rest-bound}
 use Rattle.tc_sparkle_aead.proofs.StateLaws.{state-length}
 use Rattle.tc_sparkle_aead.proofs.BlockRuns.{length-stream}
 use Rattle.tc_sparkle_aead.proofs.DataLaws.{count-is, written-at}
 use Rattle.tc_sparkle_aead.specs.Calls.{plainOf}
-use Rattle.tc_sparkle_aead.specs.Checks.{keep}
-use Rattle.tc_sparkle_aead.proofs.VariantLaws.{sizes, small, keep-bound}
+use Rattle.tc_aead_cipher.specs.Checks.{keep}
+use Rattle.tc_aead_cipher.proofs.VariantLaws.{sizes, small, keep-bound}
 use Rattle.schwaemm.specs.Schwaemm.{messageBlock}
 use Rattle.schwaemm.specs.Blocks.{ready}
 use Rattle.tc_sparkle_aead.proofs.engine.stream_in.Statement.{statement}

@@ -1,0 +1,15 @@
+-- The calls of an engine, as they are handed to it: for the engine, the reader and the boundary alike.
+use Prim.Native.Nat.{ℕ}
+use mathlib.Core.List.{List}
+use Rattle.tc_aead_cipher.specs.declared.phase.Direction.{Direction}
+
+-- A call with its arguments; an output buffer with its contents before the call.
+pub data Call : Type 0 where
+  start : Direction → (key nonce : List ℕ) → (size : ℕ) → (header : List ℕ) → Call
+  header : (input : List ℕ) → Call
+  message : (input out : List ℕ) → Call
+  end : (out : List ℕ) → Call
+  reset : Call
+  tag : Call
+  update : (n : ℕ) → Call
+  output : (n : ℕ) → Call

@@ -1,0 +1,66 @@
+// The four parameter sets (the Rust's variant.rs; document 01's table of variants).
+ghost use mathlib.Core.Path.{_≡_};
+ghost use Rattle.tc_aead_cipher.specs.Variant.{paramsOf};
+
+pub enum SparkleVariant {
+    Schwaemm128_128,
+    Schwaemm256_128,
+    Schwaemm192_192,
+    Schwaemm256_256,
+}
+
+impl SparkleVariant {
+    pub fn key_bytes(self) -> usize
+        ensures { λ r. ⌜ r ≡ paramsOf self .key ⌝ }
+    {
+        match self {
+            SparkleVariant::Schwaemm128_128 => 16,
+            SparkleVariant::Schwaemm256_128 => 16,
+            SparkleVariant::Schwaemm192_192 => 24,
+            SparkleVariant::Schwaemm256_256 => 32,
+        }
+    }
+
+    pub fn nonce_bytes(self) -> usize
+        ensures { λ r. ⌜ r ≡ paramsOf self .rate ⌝ }
+    {
+        match self {
+            SparkleVariant::Schwaemm128_128 => 16,
+            SparkleVariant::Schwaemm256_128 => 32,
+            SparkleVariant::Schwaemm192_192 => 24,
+            SparkleVariant::Schwaemm256_256 => 32,
+        }
+    }
+
+    pub fn tag_bytes(self) -> usize
+        ensures { λ r. ⌜ r ≡ paramsOf self .key ⌝ }
+    {
+        self.key_bytes()
+    }
+
+    pub fn slim_steps(self) -> u32
+        ensures { λ r. ⌜ r ≡ paramsOf self .slim ⌝ }
+    {
+        match self {
+            SparkleVariant::Schwaemm128_128 => 7,
+            SparkleVariant::Schwaemm256_128 => 7,
+            SparkleVariant::Schwaemm192_192 => 7,
+            SparkleVariant::Schwaemm256_256 => 8,
+        }
+    }
+
+    // From an array, so that the compiler does not know that there are steps: where it does, it drops
+    // the test for none in `run_groups`, and makes scalar instructions of a part of that function.
+    pub fn big_steps(self) -> u32
+        ensures { λ r. ⌜ r ≡ paramsOf self .big ⌝ }
+    {
+        let steps = [10u32, 11, 12];
+        let k = match self {
+            SparkleVariant::Schwaemm128_128 => 0,
+            SparkleVariant::Schwaemm256_128 => 1,
+            SparkleVariant::Schwaemm192_192 => 1,
+            SparkleVariant::Schwaemm256_256 => 2,
+        };
+        steps[k]
+    }
+}
