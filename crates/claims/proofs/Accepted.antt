@@ -25,22 +25,22 @@ use Rattle.tc_aead_cipher.specs.declared.aead_error.AeadResult.the-variants.{Ok
 use Rattle.tc_sparkle_aead.specs.declared.engine.Mac.{Mac}
 use Rattle.tc_sparkle_aead.specs.declared.engine.SparkleEngine.{SparkleEngine}
 use Rattle.tc_aead_cipher.specs.Variant.{paramsOf}
-use Rattle.tc_aead_cipher.specs.Checks.{opens, opening, keep, heldIn, then, within64, updateLen, totalLen, phaseCheck, room, dataCheck, whole, endCheck}
-use Rattle.tc_sparkle_aead.specs.Calls.{stateIn, stream, blocks, beginData, plainOf, dataOut, written, sealLast, sealTag, openBlock, openLast, plainBy, streamOut}
+use Rattle.tc_aead_cipher.specs.Checks.{opens, opening, keep, heldData, then, within64, updateLen, totalLen, phaseCheck, room, dataCheck, whole, endCheck}
+use Rattle.tc_sparkle_aead.specs.Calls.{stateIn, stream, blockCount, beginData, plainOf, dataOut, written, sealLast, sealTag, openBlock, openLast, plainBy, streamOut}
 use Rattle.tc_aead_cipher.proofs.VariantLaws.{sizes, small}
-use Rattle.claims.specs.Reader.{Reader, heldOf, dataPhase}
+use Rattle.claims.specs.Reader.{Reader, readerHeld, dataPhase}
 use Rattle.claims.specs.Messages.{released, Writes}
 use Rattle.claims.proofs.Points.{held-nil, blockPoint}
 use Rattle.claims.proofs.Packets.{packet-given}
 use Rattle.claims.proofs.Kept.{Fits, Standing, engineOf, dataPoint, pointIn, then-good, holds-data, state-data}
 use Rattle.claims.proofs.Kept.{data-given, phase-agrees}
-use Rattle.claims.proofs.Follows.{Takes, kept, inData, begun-data, sealing-state, sealing-block, sealing-tag}
+use Rattle.claims.proofs.Follows.{Active, kept, inData, begin-data, sealing-state, sealing-block, sealing-tag}
 use Rattle.claims.proofs.Follows.{opening-block, opening-last}
 
 -- ---- What passed checks say
 
 pub record DataPassed (p : Params) (phase : Phase) (held k a n : ℕ) : Type 0 where
-  pub count : n ≡ ready (p .rate) (keep p phase) (heldIn p phase held + k) * p .rate
+  pub count : n ≡ ready (p .rate) (keep p phase) (heldData p phase held + k) * p .rate
   pub fits : n ≤ a
 
 within-good : (sum n k : ℕ) (b : Bool) → ltb sum (2 ^ 64) ≡ b
@@ -57,7 +57,7 @@ pub data-good : (p : Params) (phase : Phase) (held k a n : ℕ) → dataCheck p 
     → DataPassed p phase held k a n
 unfolding dataCheck updateLen
 data-good p phase held k a n e =
-    let h = heldIn p phase held in
+    let h = heldData p phase held in
     let m = ready (p .rate) (keep p phase) (h + k) * p .rate in
     let s1 = then-good (phaseCheck phase) (λ _. then (updateLen p phase held k) (room a)) n e in
     let s2 = then-good (updateLen p phase held k) (room a) n (s1 .2) in
@@ -66,7 +66,7 @@ data-good p phase held k a n e =
     record { count = sym (s4 .0) ∙ sym s3; fits = omega arith }
 
 pub record EndPassed (p : Params) (phase : Phase) (held a n : ℕ) : Type 0 where
-  pub count : n ≡ cond (opening phase) (heldIn p phase held - p .key) (heldIn p phase held + p .key)
+  pub count : n ≡ cond (opening phase) (heldData p phase held - p .key) (heldData p phase held + p .key)
   pub fits : n ≤ a
 
 total-good : (p : Params) (h k : ℕ) (b : Bool)
@@ -86,7 +86,7 @@ whole-same p h j n false c e = cc
 pub end-good : (p : Params) (phase : Phase) (held a n : ℕ) → endCheck p phase held a ≡ Ok n → EndPassed p phase held a n
 unfolding endCheck totalLen
 end-good p phase held a n e =
-    let h = heldIn p phase held in
+    let h = heldData p phase held in
     let s1 = then-good (phaseCheck phase) (λ _. then (then (totalLen p phase held 0) (room a)) (whole p phase held)) n e in
     let s2 = then-good (then (totalLen p phase held 0) (room a)) (whole p phase held) n (s1 .2) in
     let s3 = then-good (totalLen p phase held 0) (room a) (s2 .0) (s2 .1) in
@@ -96,26 +96,26 @@ end-good p phase held a n e =
     record { count = sym s6 ∙ sym (s4 .0) ∙ s5; fits = omega arith }
 
 -- the phases of accepted calls
-pub phase-takes : (phase : Phase) (k : ℕ) → phaseCheck phase ≡ Ok k → (d : Direction) × Takes d phase
-phase-takes Uninitialized k e = absurd (let z : _≡_ {A = ℕ} 0 1 = cc in omega arith)
-phase-takes (Init d) k e = (d, Takes.takes-init)
-phase-takes (Aad d) k e = (d, Takes.takes-aad)
-phase-takes (Data d) k e = (d, Takes.takes-data)
-phase-takes (Final d) k e = absurd (let z : _≡_ {A = ℕ} 0 1 = cc in omega arith)
+pub phase-active : (phase : Phase) (k : ℕ) → phaseCheck phase ≡ Ok k → (d : Direction) × Active d phase
+phase-active Uninitialized k e = absurd (let z : _≡_ {A = ℕ} 0 1 = cc in omega arith)
+phase-active (Init d) k e = (d, Active.in-init)
+phase-active (Aad d) k e = (d, Active.in-aad)
+phase-active (Data d) k e = (d, Active.in-data)
+phase-active (Final d) k e = absurd (let z : _≡_ {A = ℕ} 0 1 = cc in omega arith)
 
 pub data-takes : (p : Params) (phase : Phase) (held k a n : ℕ) → dataCheck p phase held k a ≡ Ok n
-    → (d : Direction) × Takes d phase
+    → (d : Direction) × Active d phase
 unfolding dataCheck
 data-takes p phase held k a n e =
     let s1 = then-good (phaseCheck phase) (λ _. then (updateLen p phase held k) (room a)) n e in
-    phase-takes phase (s1 .0) (s1 .1)
+    phase-active phase (s1 .0) (s1 .1)
 
 pub end-takes : (p : Params) (phase : Phase) (held a n : ℕ) → endCheck p phase held a ≡ Ok n
-    → (d : Direction) × Takes d phase
+    → (d : Direction) × Active d phase
 unfolding endCheck
 end-takes p phase held a n e =
     let s1 = then-good (phaseCheck phase) (λ _. then (then (totalLen p phase held 0) (room a)) (whole p phase held)) n e in
-    phase-takes phase (s1 .0) (s1 .1)
+    phase-active phase (s1 .0) (s1 .1)
 
 -- ---- Outputs
 
@@ -131,20 +131,20 @@ writes before after out w n e l fits =
 
 -- ---- A phase that takes data
 
-pub takes-phase : {d : Direction} {phase : Phase} → Takes d phase → dataPhase phase ≡ Data d
-takes-phase Takes.takes-init = refl
-takes-phase Takes.takes-aad = refl
-takes-phase Takes.takes-data = refl
+pub active-phase : {d : Direction} {phase : Phase} → Active d phase → dataPhase phase ≡ Data d
+active-phase Active.in-init = refl
+active-phase Active.in-aad = refl
+active-phase Active.in-data = refl
 
-pub takes-keep : (p : Params) {d : Direction} {phase : Phase} → Takes d phase → keep p phase ≡ keep p (Data d)
-takes-keep p Takes.takes-init = refl
-takes-keep p Takes.takes-aad = refl
-takes-keep p Takes.takes-data = refl
+pub active-keep : (p : Params) {d : Direction} {phase : Phase} → Active d phase → keep p phase ≡ keep p (Data d)
+active-keep p Active.in-init = refl
+active-keep p Active.in-aad = refl
+active-keep p Active.in-data = refl
 
-pub takes-opening : {d : Direction} {phase : Phase} → Takes d phase → opening phase ≡ opens d
-takes-opening Takes.takes-init = refl
-takes-opening Takes.takes-aad = refl
-takes-opening Takes.takes-data = refl
+pub active-opening : {d : Direction} {phase : Phase} → Active d phase → opening phase ≡ opens d
+active-opening Active.in-init = refl
+active-opening Active.in-aad = refl
+active-opening Active.in-data = refl
 
 module _ (v : SparkleVariant) where
   abbrev p : Params
@@ -160,15 +160,15 @@ module _ (v : SparkleVariant) where
 
     module _ (f : loaded ≡ true → Fits p key nonce) (header body : List ℕ) (mac : Mac) (n : ℕ) where
       -- what is held
-      pub held-count : {d : Direction} {phase : Phase} → Takes d phase
+      pub buffered-count : {d : Direction} {phase : Phase} → Active d phase
           → Standing p phase loaded key nonce initial header body mac n
-          → heldIn p phase (heldOf p (keeps phase header body))
+          → heldData p phase (readerHeld p (keeps phase header body))
           ≡ length (held (p .rate) (keep p (Data d)) body)
-      held-count {d = d} Takes.takes-init st =
+      buffered-count {d = d} Active.in-init st =
           rw (st .4, held-nil (p .rate) (keep p (Data d)))
-      held-count {d = d} Takes.takes-aad st =
+      buffered-count {d = d} Active.in-aad st =
           rw (st .4, held-nil (p .rate) (keep p (Data d)))
-      held-count {d = d} Takes.takes-data st =
+      buffered-count {d = d} Active.in-data st =
           let s = sizes v in
           omega (
             arith,
@@ -177,13 +177,13 @@ module _ (v : SparkleVariant) where
                 (s .rate-positive) (length body),
           )
 
-      pub released-data : {d : Direction} {phase : Phase} → Takes d phase
+      pub released-data : {d : Direction} {phase : Phase} → Active d phase
           → released p (keeps phase header body)
           ≡ released p (keeps (Data d) header body)
       unfolding released plainOf plainBy
-      released-data Takes.takes-init = refl
-      released-data Takes.takes-aad = refl
-      released-data Takes.takes-data = refl
+      released-data Active.in-init = refl
+      released-data Active.in-aad = refl
+      released-data Active.in-data = refl
 
       -- a data call
       module _ (d : Direction) (input : List ℕ) where
@@ -195,12 +195,12 @@ module _ (v : SparkleVariant) where
 
         data-length : length (dataOut (dataEngine d header body) input)
             ≡ ready (p .rate) (keep p (Data d)) (length (held (p .rate) (keep p (Data d)) body) + length input) * p .rate
-        unfolding dataOut dataPoint blockPoint blocks stream streamOut
+        unfolding dataOut dataPoint blockPoint blockCount stream streamOut
         data-length =
             let at = dataPoint p d key nonce header body in
             let plain = plainOf p (Data d) in
             let first = prepared p key nonce header in
-            length-crypted-blocks p (sizes v) plain (blocks p (keep p (Data d)) at input) (stateIn p (at .words))
+            length-crypted-blocks p (sizes v) plain (blockCount p (keep p (Data d)) at input) (stateIn p (at .words))
             (stream p at input)
             (ap length (state-data p (sizes v) (small v) d key nonce header body)
             ∙ length-blocks p (sizes v) plain (ready (p .rate) (keep p (Data d)) (length body)) first body
@@ -210,25 +210,25 @@ module _ (v : SparkleVariant) where
             (ap (λ (l : List ℕ). length (l ++ input)) (holds-data p (sizes v) (small v) d key nonce header body)
             ∙ length-append (held (p .rate) (keep p (Data d)) body) input)
 
-      pub message-writes : {d : Direction} {phase : Phase} → Takes d phase
+      pub message-writes : {d : Direction} {phase : Phase} → Active d phase
           → Standing p phase loaded key nonce initial header body mac n
           → (input out : List ℕ) (k : ℕ)
-          → DataPassed p phase (heldOf p (keeps phase header body)) (length input) (length out) k
+          → DataPassed p phase (readerHeld p (keeps phase header body)) (length input) (length out) k
           → Writes (released p (keeps phase header body))
           (released p (keeps (dataPhase phase) header (body ++ input)))
           out (written (dataOut (beginData (engineOf v (keeps phase header body) mac n)) input) out) k
       message-writes {d} {phase} t st input out k ok =
           let r = keeps phase header body in
-          let is = begun-data v loaded key nonce initial f t header body mac n st in
+          let is = begin-data v loaded key nonce initial f t header body mac n st in
           let e : released p (keeps (dataPhase phase) header (body ++ input))
           ≡ released p r ++ dataOut (beginData (engineOf v r mac n)) input =
-          ap (λ (x : Phase). released p (keeps x header (body ++ input))) (takes-phase t)
+          ap (λ (x : Phase). released p (keeps x header (body ++ input))) (active-phase t)
           ∙ data-bytes d input
           ∙ ap₂ (λ (x : List ℕ) (y : SparkleEngine). x ++ dataOut y input) (sym (released-data t)) (sym is)
           in
           let l : length (dataOut (beginData (engineOf v r mac n)) input) ≡ k =
           ap (λ (y : SparkleEngine). length (dataOut y input)) is ∙ data-length d input
-          ∙ ap₂ (λ (x y : ℕ). ready (p .rate) x (y + length input) * p .rate) (sym (takes-keep p t)) (sym (held-count t st))
+          ∙ ap₂ (λ (x y : ℕ). ready (p .rate) x (y + length input) * p .rate) (sym (active-keep p t)) (sym (buffered-count t st))
           ∙ sym (ok .count)
           in
           writes (released p r) _ out (dataOut (beginData (engineOf v r mac n)) input) k e l (ok .fits)
@@ -309,15 +309,15 @@ module _ (v : SparkleVariant) where
             )
 
       -- the end, past its checks, by the direction
-      module _ {d : Direction} {phase : Phase} (t : Takes d phase)
+      module _ {d : Direction} {phase : Phase} (t : Active d phase)
           (st : Standing p phase loaded key nonce initial header body mac n)
           (out : List ℕ) (k : ℕ)
-          (ok : EndPassed p phase (heldOf p (keeps phase header body)) (length out) k) where
+          (ok : EndPassed p phase (readerHeld p (keeps phase header body)) (length out) k) where
         pub is-open : opening (pointIn p phase key nonce header body .phase) ≡ opens d
-        is-open = ap opening (phase-agrees p key nonce header body phase) ∙ takes-opening t
+        is-open = ap opening (phase-agrees p key nonce header body phase) ∙ active-opening t
 
         -- how much is written
         pub end-count : k ≡ cond (opens d) (length (held (p .rate) (keep p (Data d)) body) - p .key)
             (length (held (p .rate) (keep p (Data d)) body) + p .key)
         end-count =
-            ok .count ∙ ap₂ (λ (b : Bool) (h : ℕ). cond b (h - p .key) (h + p .key)) (takes-opening t) (held-count t st)
+            ok .count ∙ ap₂ (λ (b : Bool) (h : ℕ). cond b (h - p .key) (h + p .key)) (active-opening t) (buffered-count t st)

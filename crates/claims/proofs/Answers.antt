@@ -18,7 +18,7 @@ use Rattle.tc_sparkle_aead.specs.Calls.{aadBy}
 use Rattle.tc_aead_cipher.specs.Call.{Call}
 use Rattle.tc_sparkle_aead.specs.Sheet.{step, run}
 use Rattle.tc_aead_cipher.specs.Outcome.{Outcome, outcome}
-use Rattle.claims.specs.Reader.{Reader, heldOf, reader}
+use Rattle.claims.specs.Reader.{Reader, readerHeld, reader}
 use Rattle.claims.specs.Messages.{openOutcome, Asked, endOutcome, answerOf}
 use Rattle.claims.proofs.Kept.{Follows, engineOf}
 use Rattle.claims.proofs.Follows.{follows-run, aad-some}
@@ -47,8 +47,8 @@ open-is true n = refl
 open-is false n = refl
 
 end-answer : (v : SparkleVariant) (e : SparkleEngine) (r : Reader) → Follows v e r → (out : List ℕ) (k : AeadResult)
-    → endCheck (paramsOf v) (r .phase) (heldOf (paramsOf v) r) (length out) ≡ k → (o : Bool) → opening (r .phase) ≡ o
-    → step e (Call.end out) .outcome ≡ endOutcome k o (verified (paramsOf v) (r .key) (r .nonce) (r .header) (r .body))
+    → endCheck (paramsOf v) (r .phase) (readerHeld (paramsOf v) r) (length out) ≡ k → (o : Bool) → opening (r .phase) ≡ o
+    → step e (Call.Final out) .outcome ≡ endOutcome k o (verified (paramsOf v) (r .key) (r .nonce) (r .header) (r .body))
 end-answer v e r w out (Err x) q o is = end-refused v e r w out x q
 end-answer v e r w out (Ok n) q true is =
     open-end v e r w out n q is .outcome-is
@@ -58,15 +58,15 @@ end-answer v e r w out (Ok n) q false is = seal-end v e r w out n q is .outcome-
 pub answer-step : (v : SparkleVariant) (e : SparkleEngine) (r : Reader) → Follows v e r → (c : Call) → Asked c
     → step e c .outcome ≡ answerOf (paramsOf v) r c
 unfolding answerOf
-answer-step v e r w (Call.start d key nonce size h) a = start-outcome v e r w d key nonce size h
-answer-step v e r w (Call.header input) a =
+answer-step v e r w (Call.Init d key nonce size h) a = start-outcome v e r w d key nonce size h
+answer-step v e r w (Call.Aad input) a =
     header-outcome v e r w input ∙ ap outcome (header-same (r .phase) (engineOf v r (w .mac) (w .count)) input)
-answer-step v e r w (Call.message input out) a = message-outcome v e r w input out
-answer-step v e r w (Call.end out) a = end-answer v e r w out _ refl _ refl
-answer-step v e r w Call.reset a = unfold step in refl
-answer-step v e r w Call.tag a = absurd a
-answer-step v e r w (Call.update n) a = update-outcome v e r w n
-answer-step v e r w (Call.output n) a = total-outcome v e r w n
+answer-step v e r w (Call.Data input out) a = message-outcome v e r w input out
+answer-step v e r w (Call.Final out) a = end-answer v e r w out _ refl _ refl
+answer-step v e r w Call.Reset a = unfold step in refl
+answer-step v e r w Call.Mac a = absurd a
+answer-step v e r w (Call.Update n) a = update-outcome v e r w n
+answer-step v e r w (Call.Output n) a = total-outcome v e r w n
 
 -- After any list of calls.
 pub answers : (v : SparkleVariant) (calls : List Call) (c : Call) → Asked c

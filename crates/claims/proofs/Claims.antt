@@ -26,18 +26,18 @@ use Rattle.tc_aead_cipher.specs.Call.{Call}
 use Rattle.claims.specs.Shape.{Alike}
 use Rattle.tc_sparkle_aead.specs.Sheet.{step, Line, sheet, runFrom, run}
 use Rattle.tc_aead_cipher.specs.Outcome.Outcome.{ok, no}
-use Rattle.claims.specs.Reader.{newReader, heldOf, repeated, read, reader, verdicts}
+use Rattle.claims.specs.Reader.{newReader, readerHeld, repeated, read, reader, verdicts}
 use Rattle.claims.specs.Reader.Verdict.{Yes, No, None}
 use Rattle.claims.specs.Messages.{Each, outputs, headerBytes, dataBytes, HeaderCall, DataCall, messageCalls, Rooms, Ample}
 use Rattle.claims.specs.Messages.{Completes, Rejects, RoundTrip}
-use Rattle.claims.specs.Messages.{AllBetween, takenHeader, takenData, begunEngine, OpenedUnrefused, Asked, answerOf}
-use Rattle.claims.specs.Messages.{released, Writes, finishedBytes, messageOf, OpenEndExact, Ended, Before, stepsBefore}
+use Rattle.claims.specs.Messages.{AllBetween, acceptedHeader, acceptedData, startedEngine, OpenedUnrefused, Asked, answerOf}
+use Rattle.claims.specs.Messages.{released, Writes, finishedBytes, messageOf, OpenEndExact, EndsWith, Before, stepsBefore}
 use Rattle.claims.specs.Messages.{stepsAfterInit, Keeps, handed, UnderWay, shownTags}
 use Rattle.claims.specs.Refused.{Refused, OfStart, Unchanging, Numbered, Returned, Wiped, Unchanged, Failed, lent}
 use Rattle.claims.specs.Machine.{Machine, engine, after, counts, Demand2, Demand3}
 use Rattle.claims.specs.Rejected.{notInitialized, fixed, untouched, skipping, inventing, finalizing}
 use Rattle.claims.specs.Worked.{worked, row}
-use Rattle.claims.proofs.Demand1.{returned, eleven-numbers, refusals, start-wipes, start-number-leaves, six-leaves}
+use Rattle.claims.proofs.Demand1.{returned, refusal-numbers, refusals, start-wipes, start-number-leaves, six-leaves}
 use Rattle.claims.proofs.Demand1.{unchanging-number-leaves}
 use Rattle.claims.proofs.EngineMeets.{run-six-leaves, demand-3, demand-3-call-by-call, engine-demand-3}
 use Rattle.claims.proofs.Whole.{sealed-unrefused, opened-unrefused, returned-unrefused}
@@ -64,11 +64,11 @@ use Rattle.claims.proofs.WorkedSheet.{worked-sheet, worked-verdicts}
 
 -- 1.1 "A call that comes with arbitrary contents and lengths, in any phase, returns: with its work done or with one of
 -- eleven refusals."
-pub work-done-or-one-of-eleven : (e : SparkleEngine) (c : Call) → Returned (step e c .outcome)
-work-done-or-one-of-eleven = returned
+pub work-done-or-refused : (e : SparkleEngine) (c : Call) → Returned (step e c .outcome)
+work-done-or-refused = returned
 
-pub refusals-are-the-eleven : (e : SparkleEngine) (c : Call) (r : List ℕ) → step e c .outcome ≡ no r → Numbered r
-refusals-are-the-eleven = eleven-numbers
+pub refusals-are-numbered : (e : SparkleEngine) (c : Call) (r : List ℕ) → step e c .outcome ≡ no r → Numbered r
+refusals-are-numbered = refusal-numbers
 
 -- 1.1, which of the eleven: a number comes back exactly where its line of document 01's tables says.
 pub every-refusal-by-its-line : (e : SparkleEngine) (c : Call) (r : List ℕ) → (step e c .outcome ≡ no r) ↔ Refused e c r
@@ -76,7 +76,7 @@ every-refusal-by-its-line = refusals
 
 -- 1.2 "A refused start leaves no message, but the last loaded key and nonce."
 pub refused-start-leaves-the-pair : (e : SparkleEngine) (d : Direction) (key nonce header r : List ℕ) (size : ℕ)
-    → step e (Call.start d key nonce size header) .outcome ≡ no r → Wiped e (Call.start d key nonce size header)
+    → step e (Call.Init d key nonce size header) .outcome ≡ no r → Wiped e (Call.Init d key nonce size header)
 refused-start-leaves-the-pair = start-wipes
 
 -- 1.2, by the number: 1, 2, 3 and 11 come of a start and leave the same.
@@ -86,12 +86,12 @@ start-numbers-leave-the-pair = start-number-leaves
 
 -- 1.3 "A failed tag ends the message and zeroes what that last call would have written." After every list of calls.
 pub failed-tag-ends-and-zeroes : (v : SparkleVariant) (calls : List Call) (c : Call) (values : List ℕ)
-    → step (run v calls) c .outcome ≡ no (6 ∷ values) → (out : List ℕ) × (c ≡ Call.end out) × Failed (run v calls) out
+    → step (run v calls) c .outcome ≡ no (6 ∷ values) → (out : List ℕ) × (c ≡ Call.Final out) × Failed (run v calls) out
 failed-tag-ends-and-zeroes = run-six-leaves
 
 -- 1.3, for any engine value; the buffer in it is an array of 64 bytes.
 pub failed-tag-of-any-engine : (e : SparkleEngine) (c : Call) (values : List ℕ) → length (e .current .buffer) ≡ 64
-    → step e c .outcome ≡ no (6 ∷ values) → (out : List ℕ) × (c ≡ Call.end out) × Failed e out
+    → step e c .outcome ≡ no (6 ∷ values) → (out : List ℕ) × (c ≡ Call.Final out) × Failed e out
 failed-tag-of-any-engine = six-leaves
 
 -- 1.4 "Each other refusal changes neither engine nor buffer." The others are 4, 5 and 7 to 10.
@@ -108,12 +108,12 @@ other-refusals-change-nothing = unchanging-number-leaves
 -- the bytes written are the packet of the header and the data that were not refused.
 pub sealing-is-the-specifications : (v : SparkleVariant) (before : List Call) (key nonce : List ℕ) (size : ℕ)
     (initial : List ℕ) (between : List Call) (out : List ℕ) (k n : ℕ)
-    → step (run v before) (Call.start Encrypt key nonce size initial) .outcome ≡ ok k
-    → AllBetween (begunEngine v before Encrypt key nonce size initial) between
-    → step (runFrom (begunEngine v before Encrypt key nonce size initial) between) (Call.end out) .outcome ≡ ok n
-    → outputs (run v before) (Call.start Encrypt key nonce size initial ∷ (between ++ (Call.end out ∷ [])))
-    ≡ seal (paramsOf v) key nonce (initial ++ takenHeader (begunEngine v before Encrypt key nonce size initial) between)
-    (takenData (begunEngine v before Encrypt key nonce size initial) between)
+    → step (run v before) (Call.Init Encrypt key nonce size initial) .outcome ≡ ok k
+    → AllBetween (startedEngine v before Encrypt key nonce size initial) between
+    → step (runFrom (startedEngine v before Encrypt key nonce size initial) between) (Call.Final out) .outcome ≡ ok n
+    → outputs (run v before) (Call.Init Encrypt key nonce size initial ∷ (between ++ (Call.Final out ∷ [])))
+    ≡ seal (paramsOf v) key nonce (initial ++ acceptedHeader (startedEngine v before Encrypt key nonce size initial) between)
+    (acceptedData (startedEngine v before Encrypt key nonce size initial) between)
 sealing-is-the-specifications = sealed-unrefused
 
 -- 2.2, and nothing is refused where the sizes are right, the pair is not the last loaded, and each query answers a length
@@ -152,29 +152,29 @@ opening-returns-the-message = opened-sealed
 -- sealed bytes come back as the data that was sealed.
 pub unrefused-opening-returns-the-message : (v : SparkleVariant) (before after : List Call) (key nonce : List ℕ)
     (size size' : ℕ) (initial initial' : List ℕ) (between between' : List Call) (out out' : List ℕ) (k k' n n' : ℕ)
-    → step (run v before) (Call.start Encrypt key nonce size initial) .outcome ≡ ok k
-    → AllBetween (begunEngine v before Encrypt key nonce size initial) between
-    → step (runFrom (begunEngine v before Encrypt key nonce size initial) between) (Call.end out) .outcome ≡ ok n
-    → step (run v after) (Call.start Decrypt key nonce size' initial') .outcome ≡ ok k'
-    → AllBetween (begunEngine v after Decrypt key nonce size' initial') between'
-    → step (runFrom (begunEngine v after Decrypt key nonce size' initial') between') (Call.end out') .outcome ≡ ok n'
-    → initial' ++ takenHeader (begunEngine v after Decrypt key nonce size' initial') between'
-    ≡ initial ++ takenHeader (begunEngine v before Encrypt key nonce size initial) between
-    → takenData (begunEngine v after Decrypt key nonce size' initial') between'
-    ≡ outputs (run v before) (Call.start Encrypt key nonce size initial ∷ (between ++ (Call.end out ∷ [])))
-    → outputs (run v after) (Call.start Decrypt key nonce size' initial' ∷ (between' ++ (Call.end out' ∷ [])))
-    ≡ takenData (begunEngine v before Encrypt key nonce size initial) between
+    → step (run v before) (Call.Init Encrypt key nonce size initial) .outcome ≡ ok k
+    → AllBetween (startedEngine v before Encrypt key nonce size initial) between
+    → step (runFrom (startedEngine v before Encrypt key nonce size initial) between) (Call.Final out) .outcome ≡ ok n
+    → step (run v after) (Call.Init Decrypt key nonce size' initial') .outcome ≡ ok k'
+    → AllBetween (startedEngine v after Decrypt key nonce size' initial') between'
+    → step (runFrom (startedEngine v after Decrypt key nonce size' initial') between') (Call.Final out') .outcome ≡ ok n'
+    → initial' ++ acceptedHeader (startedEngine v after Decrypt key nonce size' initial') between'
+    ≡ initial ++ acceptedHeader (startedEngine v before Encrypt key nonce size initial) between
+    → acceptedData (startedEngine v after Decrypt key nonce size' initial') between'
+    ≡ outputs (run v before) (Call.Init Encrypt key nonce size initial ∷ (between ++ (Call.Final out ∷ [])))
+    → outputs (run v after) (Call.Init Decrypt key nonce size' initial' ∷ (between' ++ (Call.Final out' ∷ [])))
+    ≡ acceptedData (startedEngine v before Encrypt key nonce size initial) between
 unrefused-opening-returns-the-message = returned-unrefused
 
 -- 2.3, of any packet: an opening whose end is not refused had a verified packet, and wrote what its body decrypts to.
 pub opening-is-the-specifications : (v : SparkleVariant) (before : List Call) (key nonce : List ℕ) (size : ℕ)
     (initial : List ℕ) (between : List Call) (out : List ℕ) (k n : ℕ)
-    → step (run v before) (Call.start Decrypt key nonce size initial) .outcome ≡ ok k
-    → AllBetween (begunEngine v before Decrypt key nonce size initial) between
-    → step (runFrom (begunEngine v before Decrypt key nonce size initial) between) (Call.end out) .outcome ≡ ok n
-    → OpenedUnrefused v key nonce (initial ++ takenHeader (begunEngine v before Decrypt key nonce size initial) between)
-    (takenData (begunEngine v before Decrypt key nonce size initial) between)
-    (outputs (run v before) (Call.start Decrypt key nonce size initial ∷ (between ++ (Call.end out ∷ []))))
+    → step (run v before) (Call.Init Decrypt key nonce size initial) .outcome ≡ ok k
+    → AllBetween (startedEngine v before Decrypt key nonce size initial) between
+    → step (runFrom (startedEngine v before Decrypt key nonce size initial) between) (Call.Final out) .outcome ≡ ok n
+    → OpenedUnrefused v key nonce (initial ++ acceptedHeader (startedEngine v before Decrypt key nonce size initial) between)
+    (acceptedData (startedEngine v before Decrypt key nonce size initial) between)
+    (outputs (run v before) (Call.Init Decrypt key nonce size initial ∷ (between ++ (Call.Final out ∷ []))))
 opening-is-the-specifications = opened-unrefused
 
 -- 2.3, and a verified packet is accepted where the sizes are right and each query answers a length that its output has at
@@ -196,8 +196,8 @@ opening-with-room-is-accepted = opened
 -- its checks; `verified` says that the data's last bytes are the specification's tag for what the bytes before decrypt to.
 pub passes-exactly-when : (v : SparkleVariant) (calls : List Call) (out : List ℕ) (n : ℕ)
     → opening (reader v calls .phase) ≡ true
-    → endCheck (paramsOf v) (reader v calls .phase) (heldOf (paramsOf v) (reader v calls)) (length out) ≡ Ok n
-    → OpenEndExact v (reader v calls) n (step (run v calls) (Call.end out) .outcome)
+    → endCheck (paramsOf v) (reader v calls .phase) (readerHeld (paramsOf v) (reader v calls)) (length out) ≡ Ok n
+    → OpenEndExact v (reader v calls) n (step (run v calls) (Call.Final out) .outcome)
 passes-exactly-when = open-end-exact
 
 -- 2.4, of a whole message with such sizes and outputs: where the packet has a tag's bytes or more and is not verified, the
@@ -208,7 +208,7 @@ pub wrong-tag-is-rejected : (v : SparkleVariant) (before : List Call) (key nonce
     → Rooms (run v before) (messageCalls Decrypt key nonce size initial hs ms out)
     → paramsOf v .key ≤ length (dataBytes ms)
     → verified (paramsOf v) key nonce (initial ++ headerBytes hs) (dataBytes ms) ≡ false
-    → Rejects (run v before) (Call.start Decrypt key nonce size initial ∷ (hs ++ ms)) out
+    → Rejects (run v before) (Call.Init Decrypt key nonce size initial ∷ (hs ++ ms)) out
     (steps (paramsOf v) (length (initial ++ headerBytes hs)) (length (dataBytes ms) - paramsOf v .key) % 2 ^ 64)
 wrong-tag-is-rejected = rejected
 
@@ -227,10 +227,10 @@ tag-readable-on-every-line = sheet-shown
 
 -- A start, refused or not, and a reset drop it, whatever the engine.
 pub start-drops-the-tag : (e : SparkleEngine) (d : Direction) (key nonce : List ℕ) (size : ℕ) (header : List ℕ)
-    → macOf (step e (Call.start d key nonce size header) .engine) ≡ noMac
+    → macOf (step e (Call.Init d key nonce size header) .engine) ≡ noMac
 start-drops-the-tag = start-drops
 
-pub reset-drops-the-tag : (e : SparkleEngine) → macOf (step e Call.reset .engine) ≡ noMac
+pub reset-drops-the-tag : (e : SparkleEngine) → macOf (step e Call.Reset .engine) ≡ noMac
 reset-drops-the-tag = reset-drops
 
 -- 2.5 "Proved: the step count is the specification's." On every line of every sheet it is that of document 01's formula,
@@ -247,23 +247,23 @@ steps-are-the-formula = steps-before-end
 
 -- 2.5, after an end past its checks: the steps of the whole message; and the tag, which after a failed one is none.
 pub steps-and-tag-after-an-end : (v : SparkleVariant) (calls : List Call) (out : List ℕ) (n : ℕ)
-    → endCheck (paramsOf v) (reader v calls .phase) (heldOf (paramsOf v) (reader v calls)) (length out) ≡ Ok n
-    → Ended v (reader v calls)
+    → endCheck (paramsOf v) (reader v calls .phase) (readerHeld (paramsOf v) (reader v calls)) (length out) ≡ Ok n
+    → EndsWith v (reader v calls)
     (cond (opening (reader v calls .phase))
     (verified (paramsOf v) (reader v calls .key) (reader v calls .nonce) (reader v calls .header)
     (reader v calls .body)) true)
-    (step (run v calls) (Call.end out) .engine)
+    (step (run v calls) (Call.Final out) .engine)
 steps-and-tag-after-an-end = end-tag-and-steps
 
 -- 2.5, after an end that is not refused.
 pub steps-and-tag-after-an-accepted-end : (v : SparkleVariant) (calls : List Call) (out : List ℕ) (n : ℕ)
-    → step (run v calls) (Call.end out) .outcome ≡ ok n
-    → Ended v (reader v calls) true (step (run v calls) (Call.end out) .engine)
+    → step (run v calls) (Call.Final out) .outcome ≡ ok n
+    → EndsWith v (reader v calls) true (step (run v calls) (Call.Final out) .engine)
 steps-and-tag-after-an-accepted-end = end-accepted
 
 -- 2.5, after a reset, of a new engine, and after a refused start.
 pub steps-after-a-reset : (v : SparkleVariant) (calls : List Call)
-    → stepsNow (step (run v calls) Call.reset .engine)
+    → stepsNow (step (run v calls) Call.Reset .engine)
     ≡ stepsAfterInit (paramsOf v) (reader v calls .phase) (reader v calls .initial) % 2 ^ 64
 steps-after-a-reset = steps-reset
 
@@ -271,8 +271,8 @@ pub steps-of-a-new-engine : (v : SparkleVariant) → stepsNow (newEngine v) ≡ 
 steps-of-a-new-engine = steps-new
 
 pub steps-after-a-refused-start : (e : SparkleEngine) (d : Direction) (key nonce : List ℕ) (size : ℕ)
-    (header values : List ℕ) → step e (Call.start d key nonce size header) .outcome ≡ no values
-    → stepsNow (step e (Call.start d key nonce size header) .engine) ≡ 0
+    (header values : List ℕ) → step e (Call.Init d key nonce size header) .outcome ≡ no values
+    → stepsNow (step e (Call.Init d key nonce size header) .engine) ≡ 0
 steps-after-a-refused-start = steps-refused-start
 
 -- 2.5 and 2.4, until the next start or reset: in Final other calls change nothing.
@@ -289,22 +289,22 @@ bytes-so-far-are-the-specifications = so-far
 
 -- An end that is not refused completes them: sealing, to the packet; opening, to what the packet decrypts to.
 pub end-completes-the-bytes : (v : SparkleVariant) (calls : List Call) (out : List ℕ) (n : ℕ)
-    → step (run v calls) (Call.end out) .outcome ≡ ok n
-    → handed (newEngine v) [] (calls ++ (Call.end out ∷ [])) ≡ finishedBytes (paramsOf v) (reader v calls)
+    → step (run v calls) (Call.Final out) .outcome ≡ ok n
+    → handed (newEngine v) [] (calls ++ (Call.Final out ∷ [])) ≡ finishedBytes (paramsOf v) (reader v calls)
 end-completes-the-bytes = finished
 
 -- 2.2 and 2.3, call by call: an accepted data call writes the specification's next bytes, and an accepted end the rest.
 pub data-call-writes-the-next-bytes : (v : SparkleVariant) (calls : List Call) (input out : List ℕ) (n : ℕ)
-    → step (run v calls) (Call.message input out) .outcome ≡ ok n
+    → step (run v calls) (Call.Data input out) .outcome ≡ ok n
     → Writes (released (paramsOf v) (reader v calls))
-    (released (paramsOf v) (read (paramsOf v) (reader v calls) (Call.message input out) .reader)) out
-    (step (run v calls) (Call.message input out) .buffer) n
+    (released (paramsOf v) (read (paramsOf v) (reader v calls) (Call.Data input out) .reader)) out
+    (step (run v calls) (Call.Data input out) .buffer) n
 data-call-writes-the-next-bytes = message-bytes
 
 pub end-writes-the-rest : (v : SparkleVariant) (calls : List Call) (out : List ℕ) (n : ℕ)
-    → step (run v calls) (Call.end out) .outcome ≡ ok n
+    → step (run v calls) (Call.Final out) .outcome ≡ ok n
     → Writes (released (paramsOf v) (reader v calls)) (finishedBytes (paramsOf v) (reader v calls)) out
-    (step (run v calls) (Call.end out) .buffer) n
+    (step (run v calls) (Call.Final out) .buffer) n
 end-writes-the-rest = end-bytes
 
 -- Document 01, "A number comes back where its line holds": the answers of every call but mac, after every list of calls, are
@@ -394,9 +394,9 @@ untouched-output-fails-demand-2 = untouched-engine-fails-2
 -- One sealing the first data call and skipping later ones: every machine of that kind, and the engine made so.
 pub skipping-later-data-fails-demand-2 : (m : Machine)
     → ((s : m .State) (input out input' out' : List ℕ) (n : ℕ)
-    → m .step s (Call.message input out) .line .outcome ≡ ok n
-    → m .step (m .step s (Call.message input out) .state) (Call.message input' out') .state
-    ≡ m .step s (Call.message input out) .state)
+    → m .step s (Call.Data input out) .line .outcome ≡ ok n
+    → m .step (m .step s (Call.Data input out) .state) (Call.Data input' out') .state
+    ≡ m .step s (Call.Data input out) .state)
     → Demand2 m → ⊥
 skipping-later-data-fails-demand-2 = skipping-fails-2
 
@@ -416,6 +416,6 @@ pub finalized-at-data-fails-demand-2 : Demand2 finalizing → ⊥
 finalized-at-data-fails-demand-2 = finalizing-fails-2
 
 pub finalized-outside-final-fails-demand-2 : (m : Machine) (v : SparkleVariant) (before : List Call) (c : Call)
-    (values : List ℕ) → (c ≡ Call.tag → ⊥) → ((d : Direction) → reader v before .phase ≡ Final d → ⊥)
+    (values : List ℕ) → (c ≡ Call.Mac → ⊥) → ((d : Direction) → reader v before .phase ≡ Final d → ⊥)
     → m .step (after m (m .new v) before) c .line .outcome ≡ no (10 ∷ values) → Demand2 m → ⊥
 finalized-outside-final-fails-demand-2 = finalized-outside-fails-2

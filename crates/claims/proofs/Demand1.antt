@@ -21,12 +21,12 @@ use Rattle.tc_aead_cipher.specs.declared.aead_init_error.AeadInitResult.the-var
 use Rattle.tc_sparkle_aead.specs.declared.engine.SparkleEngine.{SparkleEngine}
 use Rattle.tc_sparkle_aead.specs.declared.engine.Pair.{Pair}
 use Rattle.tc_aead_cipher.specs.Variant.{paramsOf}
-use Rattle.tc_aead_cipher.specs.Checks.{opens, opening, heldIn, phaseCheck, headerCheck, updateLen, totalLen, aadCheck}
+use Rattle.tc_aead_cipher.specs.Checks.{opens, opening, heldData, phaseCheck, headerCheck, updateLen, totalLen, aadCheck}
 use Rattle.tc_aead_cipher.specs.Checks.{dataCheck, endCheck, startCheck}
 use Rattle.tc_sparkle_aead.specs.Engine.{zeros, repeats, updateOutputLen, outputLen}
 use Rattle.tc_sparkle_aead.specs.Calls.{refused, initBy, aadBy, processAadBytes, dataBy, dataOutBy, dataAnswer, finalAnswer}
-use Rattle.tc_sparkle_aead.specs.Calls.{heldBytes, openBlock, openEndOutBy, ended, addSteps, lastSteps, written, processBytes}
-use Rattle.tc_sparkle_aead.specs.Calls.{processBytesOut, beginData, receivedTag, openTag, openEnd, openEndBy, sealEnd}
+use Rattle.tc_sparkle_aead.specs.Calls.{buffered, openBlock, openEndOut, finalEngine, addSteps, lastSteps, written, processBytes}
+use Rattle.tc_sparkle_aead.specs.Calls.{processBytesOut, beginData, receivedTag, openTag, openFinal, openFinalBy, sealFinal}
 use Rattle.tc_sparkle_aead.specs.Calls.{finalBy, finalOutBy, doFinal, doFinalOut, afterHeader, withoutHeader}
 use Rattle.tc_aead_cipher.proofs.CheckLaws.{updateLen-over, updateLen-fits, totalLen-over, totalLen-opening}
 use Rattle.tc_aead_cipher.proofs.CheckLaws.{totalLen-sealing, totalLen-sealing-over, startCheck-key, startCheck-nonce}
@@ -44,8 +44,8 @@ use Rattle.tc_aead_cipher.specs.Call.{Call}
 use Rattle.tc_aead_cipher.specs.Outcome.{Outcome, outcome, startOutcome}
 use Rattle.tc_sparkle_aead.specs.Sheet.{step}
 use Rattle.tc_aead_cipher.specs.Outcome.Outcome.{ok, no}
-use Rattle.claims.specs.Refused.{Returned, work-done, one-of-eleven, Taking, in-init, in-aad, in-data, Facing}
-use Rattle.claims.specs.Refused.{no-message, of-init, of-aad, of-data, of-final, holds, hOf, keyOf, rateOf, dataWrites}
+use Rattle.claims.specs.Refused.{Returned, work-done, numbered-refusal, Active, in-init, in-aad, in-data, HasDirection}
+use Rattle.claims.specs.Refused.{no-message, of-init, of-aad, of-data, of-final, heldAt, engineHeld, keyOf, rateOf, dataWrites}
 use Rattle.claims.specs.Refused.{endWrites, outputSum, Refused, key-length, nonce-length, mac-size, data-room, end-room}
 use Rattle.claims.specs.Refused.{no-tag, tag-differs, data-sum, update-sum, output-sum, header-not-initialized}
 use Rattle.claims.specs.Refused.{data-not-initialized, end-not-initialized, header-after-data, header-finalized}
@@ -55,15 +55,15 @@ use Rattle.claims.specs.Refused.{unchanging, Wiped, Unchanged, Failed}
 
 -- ---- The checks, by the phases that take calls
 
-heldIn-is : (p : Params) (phase : Phase) (n : ℕ) → heldIn p phase n ≡ holds p phase n
-heldIn-is p Uninitialized n = refl
-heldIn-is p (Init d) n = refl
-heldIn-is p (Aad d) n = refl
-heldIn-is p (Data Encrypt) n = ap (min n) (omega arith)
-heldIn-is p (Data Decrypt) n = refl
-heldIn-is p (Final d) n = refl
+heldData-is : (p : Params) (phase : Phase) (n : ℕ) → heldData p phase n ≡ heldAt p phase n
+heldData-is p Uninitialized n = refl
+heldData-is p (Init d) n = refl
+heldData-is p (Aad d) n = refl
+heldData-is p (Data Encrypt) n = ap (min n) (omega arith)
+heldData-is p (Data Decrypt) n = refl
+heldData-is p (Final d) n = refl
 
-holds-bound : (p : Params) (phase : Phase) (n : ℕ) → holds p phase n ≤ p .key + p .rate
+holds-bound : (p : Params) (phase : Phase) (n : ℕ) → heldAt p phase n ≤ p .key + p .rate
 holds-bound p Uninitialized n = omega arith
 holds-bound p (Init d) n = omega arith
 holds-bound p (Aad d) n = omega arith
@@ -71,17 +71,17 @@ holds-bound p (Data Encrypt) n = omega arith
 holds-bound p (Data Decrypt) n = omega arith
 holds-bound p (Final d) n = omega arith
 
-taking-ok : {d : Direction} {phase : Phase} → Taking d phase → phaseCheck phase ≡ Ok 0
+taking-ok : {d : Direction} {phase : Phase} → Active d phase → phaseCheck phase ≡ Ok 0
 taking-ok in-init = refl
 taking-ok in-aad = refl
 taking-ok in-data = refl
 
-taking-facing : {d : Direction} {phase : Phase} → Taking d phase → Facing d phase
+taking-facing : {d : Direction} {phase : Phase} → Active d phase → HasDirection d phase
 taking-facing in-init = of-init
 taking-facing in-aad = of-aad
 taking-facing in-data = of-data
 
-facing-opens : {d : Direction} {phase : Phase} → Facing d phase → opening phase ≡ opens d
+facing-opens : {d : Direction} {phase : Phase} → HasDirection d phase → opening phase ≡ opens d
 facing-opens no-message = refl
 facing-opens of-init = refl
 facing-opens of-aad = refl
@@ -96,60 +96,60 @@ ready-writes p Decrypt sum = refl
 
 -- update_output_len and output_len by the direction.
 module _ (p : Params) (d : Direction) (phase : Phase) (k n : ℕ) where
-  update-over : 2 ^ 64 ≤ holds p phase k + n → updateLen p phase k n ≡ Err InputTooLong
-  update-over over = updateLen-over p phase k n (rw heldIn-is over)
+  update-over : 2 ^ 64 ≤ heldAt p phase k + n → updateLen p phase k n ≡ Err InputTooLong
+  update-over over = updateLen-over p phase k n (rw heldData-is over)
 
-  update-fits : Facing d phase → holds p phase k + n < 2 ^ 64
-      → updateLen p phase k n ≡ Ok (dataWrites d p (holds p phase k + n))
-  update-fits f fits = updateLen-fits p phase k n (rw heldIn-is fits) ∙ rw (heldIn-is, facing-opens f, ready-writes)
+  update-fits : HasDirection d phase → heldAt p phase k + n < 2 ^ 64
+      → updateLen p phase k n ≡ Ok (dataWrites d p (heldAt p phase k + n))
+  update-fits f fits = updateLen-fits p phase k n (rw heldData-is fits) ∙ rw (heldData-is, facing-opens f, ready-writes)
 
-output-over : (p : Params) (d : Direction) (phase : Phase) (k n : ℕ) → Facing d phase
-    → 2 ^ 64 ≤ outputSum d p (holds p phase k + n) → totalLen p phase k n ≡ Err InputTooLong
-output-over p Encrypt phase k n f over = totalLen-sealing-over p phase k n (facing-opens f) (rw heldIn-is over)
-output-over p Decrypt phase k n f over = totalLen-over p phase k n (rw heldIn-is over)
+output-over : (p : Params) (d : Direction) (phase : Phase) (k n : ℕ) → HasDirection d phase
+    → 2 ^ 64 ≤ outputSum d p (heldAt p phase k + n) → totalLen p phase k n ≡ Err InputTooLong
+output-over p Encrypt phase k n f over = totalLen-sealing-over p phase k n (facing-opens f) (rw heldData-is over)
+output-over p Decrypt phase k n f over = totalLen-over p phase k n (rw heldData-is over)
 
-output-fits : (p : Params) (d : Direction) (phase : Phase) (k n : ℕ) → Facing d phase
-    → outputSum d p (holds p phase k + n) < 2 ^ 64 → totalLen p phase k n ≡ Ok (endWrites d p (holds p phase k + n))
+output-fits : (p : Params) (d : Direction) (phase : Phase) (k n : ℕ) → HasDirection d phase
+    → outputSum d p (heldAt p phase k + n) < 2 ^ 64 → totalLen p phase k n ≡ Ok (endWrites d p (heldAt p phase k + n))
 output-fits p Encrypt phase k n f fits =
-    totalLen-sealing p phase k n (facing-opens f) (rw heldIn-is fits) ∙ rw heldIn-is
+    totalLen-sealing p phase k n (facing-opens f) (rw heldData-is fits) ∙ rw heldData-is
 output-fits p Decrypt phase k n f fits =
-    totalLen-opening p phase k n (facing-opens f) (rw heldIn-is fits) ∙ rw heldIn-is
+    totalLen-opening p phase k n (facing-opens f) (rw heldData-is fits) ∙ rw heldData-is
 
 -- A data call and an end in a phase that takes them.
-module _ (p : Params) (d : Direction) (phase : Phase) (k n available : ℕ) (t : Taking d phase) where
-  data-sum-law : 2 ^ 64 ≤ holds p phase k + n → dataCheck p phase k n available ≡ Err InputTooLong
+module _ (p : Params) (d : Direction) (phase : Phase) (k n available : ℕ) (t : Active d phase) where
+  data-sum-law : 2 ^ 64 ≤ heldAt p phase k + n → dataCheck p phase k n available ≡ Err InputTooLong
   unfolding dataCheck
   data-sum-law over = rw (taking-ok t, update-over p d phase k n over)
 
-  data-room-law : holds p phase k + n < 2 ^ 64 → available < dataWrites d p (holds p phase k + n)
-      → dataCheck p phase k n available ≡ Err (OutputTooShort (dataWrites d p (holds p phase k + n)) available)
+  data-room-law : heldAt p phase k + n < 2 ^ 64 → available < dataWrites d p (heldAt p phase k + n)
+      → dataCheck p phase k n available ≡ Err (OutputTooShort (dataWrites d p (heldAt p phase k + n)) available)
   unfolding dataCheck
   data-room-law fits short = rw (taking-ok t, update-fits p d phase k n (taking-facing t) fits, lt-ltb _ _ short)
 
-  data-taken : holds p phase k + n < 2 ^ 64 → dataWrites d p (holds p phase k + n) ≤ available
-      → dataCheck p phase k n available ≡ Ok (dataWrites d p (holds p phase k + n))
+  data-taken : heldAt p phase k + n < 2 ^ 64 → dataWrites d p (heldAt p phase k + n) ≤ available
+      → dataCheck p phase k n available ≡ Ok (dataWrites d p (heldAt p phase k + n))
   unfolding dataCheck
   data-taken fits enough = rw (taking-ok t, update-fits p d phase k n (taking-facing t) fits, le-ltb _ _ enough)
 
 -- the sum of an end never passes 2^64 - 1
 end-sum : (p : Params) (d : Direction) (phase : Phase) (k : ℕ) → Small p
-    → outputSum d p (holds p phase k + 0) < 2 ^ 64
+    → outputSum d p (heldAt p phase k + 0) < 2 ^ 64
 end-sum p Encrypt phase k s = omega (arith, holds-bound p phase k)
 end-sum p Decrypt phase k s = omega (arith, holds-bound p phase k)
 
-end-fits : (p : Params) (s : Small p) (d : Direction) (phase : Phase) (k : ℕ) → Facing d phase
-    → totalLen p phase k 0 ≡ Ok (endWrites d p (holds p phase k))
+end-fits : (p : Params) (s : Small p) (d : Direction) (phase : Phase) (k : ℕ) → HasDirection d phase
+    → totalLen p phase k 0 ≡ Ok (endWrites d p (heldAt p phase k))
 end-fits p s d phase k f = rw add-zero at (output-fits p d phase k 0 f (end-sum p d phase k s))
 
-module _ (p : Params) (s : Small p) (d : Direction) (phase : Phase) (k available : ℕ) (t : Taking d phase) where
-  end-room-law : available < endWrites d p (holds p phase k)
-      → endCheck p phase k available ≡ Err (OutputTooShort (endWrites d p (holds p phase k)) available)
+module _ (p : Params) (s : Small p) (d : Direction) (phase : Phase) (k available : ℕ) (t : Active d phase) where
+  end-room-law : available < endWrites d p (heldAt p phase k)
+      → endCheck p phase k available ≡ Err (OutputTooShort (endWrites d p (heldAt p phase k)) available)
   unfolding endCheck
   end-room-law short = rw (taking-ok t, end-fits p s d phase k (taking-facing t), lt-ltb _ _ short)
 
 module _ (p : Params) (s : Small p) (phase : Phase) (k available : ℕ) where
-  seal-taken : Taking Encrypt phase → holds p phase k + p .key ≤ available
-      → endCheck p phase k available ≡ Ok (holds p phase k + p .key)
+  seal-taken : Active Encrypt phase → heldAt p phase k + p .key ≤ available
+      → endCheck p phase k available ≡ Ok (heldAt p phase k + p .key)
   unfolding endCheck
   seal-taken t enough =
       rw (
@@ -159,23 +159,23 @@ module _ (p : Params) (s : Small p) (phase : Phase) (k available : ℕ) where
         facing-opens (taking-facing t),
       )
 
-  module _ (t : Taking Decrypt phase) where
-    no-tag-law : holds p phase k < p .key
-        → endCheck p phase k available ≡ Err (CiphertextTooShort (p .key) (holds p phase k))
+  module _ (t : Active Decrypt phase) where
+    no-tag-law : heldAt p phase k < p .key
+        → endCheck p phase k available ≡ Err (CiphertextTooShort (p .key) (heldAt p phase k))
     unfolding endCheck
     no-tag-law short =
-        let enough : holds p phase k - p .key ≤ available = omega arith in
+        let enough : heldAt p phase k - p .key ≤ available = omega arith in
         rw (
           taking-ok t,
           end-fits p s Decrypt phase k (taking-facing t),
           le-ltb _ _ enough,
           facing-opens (taking-facing t),
-          heldIn-is,
+          heldData-is,
           lt-ltb _ _ short,
         )
 
-    open-taken : p .key ≤ holds p phase k → holds p phase k - p .key ≤ available
-        → endCheck p phase k available ≡ Ok (holds p phase k - p .key)
+    open-taken : p .key ≤ heldAt p phase k → heldAt p phase k - p .key ≤ available
+        → endCheck p phase k available ≡ Ok (heldAt p phase k - p .key)
     unfolding endCheck
     open-taken whole enough =
         rw (
@@ -183,7 +183,7 @@ module _ (p : Params) (s : Small p) (phase : Phase) (k available : ℕ) where
           end-fits p s Decrypt phase k (taking-facing t),
           le-ltb _ _ enough,
           facing-opens (taking-facing t),
-          heldIn-is,
+          heldData-is,
           le-ltb _ _ whole,
         )
 
@@ -206,8 +206,8 @@ unfolding beginData withoutHeader afterHeader
 begun e d q = rw q
 
 opening-end : (e : SparkleEngine) (n : ℕ) (b : Bool) → e .current .phase ≡ Data Decrypt
-    → same (receivedTag e) (openTag e) ≡ b → finalBy (Ok n) e ≡ openEndBy b e n
-unfolding openEnd
+    → same (receivedTag e) (openTag e) ≡ b → finalBy (Ok n) e ≡ openFinalBy b e n
+unfolding openFinal
 opening-end e n b q h = rw (begun e Decrypt q, h, q)
 
 module _ (e : SparkleEngine) where
@@ -221,7 +221,7 @@ module _ (e : SparkleEngine) where
   refused-comes-back c r (end-room t short) = rw (end-room-law _ (small (e .variant)) _ _ _ _ t short)
   refused-comes-back c r (no-tag t short) = rw (no-tag-law _ (small (e .variant)) _ _ _ t short)
   refused-comes-back c r (tag-differs q whole enough differs) =
-      let t : Taking Decrypt (e .current .phase) = rw q in-data in
+      let t : Active Decrypt (e .current .phase) = rw q in-data in
       rw (open-taken _ (small (e .variant)) _ _ _ t whole enough, opening-end e _ false q (not-same _ _ differs))
   refused-comes-back c r (data-sum t over) = rw (data-sum-law _ _ _ _ _ _ t over)
   refused-comes-back c r (update-sum over) = rw (update-over _ Encrypt _ _ _ over)
@@ -246,57 +246,57 @@ repeats-true p pair key nonce q =
 
 module _ (e : SparkleEngine) (key nonce header : List ℕ) (size : ℕ) (k : length key ≡ keyOf e)
     (n : length nonce ≡ rateOf e) (s : size ≡ keyOf e) where
-  start-opening : step e (Call.start Decrypt key nonce size header) .outcome ≡ ok 0
+  start-opening : step e (Call.Init Decrypt key nonce size header) .outcome ≡ ok 0
   unfolding step initCall
   start-opening = rw (startCheck-opening (paramsOf (e .variant)) Decrypt _ _ _ _ k n s refl)
 
   start-fresh : repeats (paramsOf (e .variant)) (e .pair) key nonce ≡ false
-      → step e (Call.start Encrypt key nonce size header) .outcome ≡ ok 0
+      → step e (Call.Init Encrypt key nonce size header) .outcome ≡ ok 0
   unfolding step initCall
   start-fresh q = rw (startCheck-sealing (paramsOf (e .variant)) Encrypt _ _ _ _ k n s refl, q)
 
-data-count : (e : SparkleEngine) (d : Direction) (input out : List ℕ) → Taking d (e .current .phase)
-    → hOf e + length input < 2 ^ 64 → dataWrites d (paramsOf (e .variant)) (hOf e + length input) ≤ length out
-    → step e (Call.message input out) .outcome ≡ ok (dataWrites d (paramsOf (e .variant)) (hOf e + length input))
+data-count : (e : SparkleEngine) (d : Direction) (input out : List ℕ) → Active d (e .current .phase)
+    → engineHeld e + length input < 2 ^ 64 → dataWrites d (paramsOf (e .variant)) (engineHeld e + length input) ≤ length out
+    → step e (Call.Data input out) .outcome ≡ ok (dataWrites d (paramsOf (e .variant)) (engineHeld e + length input))
 unfolding step processBytes
 data-count e d input out t fits enough = rw (data-taken _ _ _ _ _ _ t fits enough)
 
-seal-count : (e : SparkleEngine) (out : List ℕ) → Taking Encrypt (e .current .phase) → hOf e + keyOf e ≤ length out
-    → step e (Call.end out) .outcome ≡ ok (hOf e + keyOf e)
-unfolding step doFinal sealEnd
+seal-count : (e : SparkleEngine) (out : List ℕ) → Active Encrypt (e .current .phase) → engineHeld e + keyOf e ≤ length out
+    → step e (Call.Final out) .outcome ≡ ok (engineHeld e + keyOf e)
+unfolding step doFinal sealFinal
 seal-count e out t enough =
     rw (seal-taken _ (small (e .variant)) _ _ _ t enough, facing-opens (taking-facing t))
 
 -- with a tag's bytes at hand an opening is in Data
-whole-in-data : (p : Params) (phase : Phase) (k : ℕ) → 0 < p .key → Taking Decrypt phase → p .key ≤ holds p phase k
+whole-in-data : (p : Params) (phase : Phase) (k : ℕ) → 0 < p .key → Active Decrypt phase → p .key ≤ heldAt p phase k
     → phase ≡ Data Decrypt
 whole-in-data p phase k positive in-init whole = absurd (omega arith)
 whole-in-data p phase k positive in-aad whole = absurd (omega arith)
 whole-in-data p phase k positive in-data whole = refl
 
-module _ (e : SparkleEngine) (out : List ℕ) (q : e .current .phase ≡ Data Decrypt) (whole : keyOf e ≤ hOf e)
-    (enough : hOf e - keyOf e ≤ length out) where
-  open-count : receivedTag e ≡ openTag e → step e (Call.end out) .outcome ≡ ok (hOf e - keyOf e)
+module _ (e : SparkleEngine) (out : List ℕ) (q : e .current .phase ≡ Data Decrypt) (whole : keyOf e ≤ engineHeld e)
+    (enough : engineHeld e - keyOf e ≤ length out) where
+  open-count : receivedTag e ≡ openTag e → step e (Call.Final out) .outcome ≡ ok (engineHeld e - keyOf e)
   unfolding step doFinal
   open-count equal =
-      let t : Taking Decrypt (e .current .phase) = rw q in-data in
+      let t : Active Decrypt (e .current .phase) = rw q in-data in
       rw (open-taken _ (small (e .variant)) _ _ _ t whole enough, opening-end e _ true q (same-of-equal _ _ equal))
 
-facing : (phase : Phase) → (d : Direction) × Facing d phase
+facing : (phase : Phase) → (d : Direction) × HasDirection d phase
 facing Uninitialized = (Encrypt, no-message)
 facing (Init d) = (d, of-init)
 facing (Aad d) = (d, of-aad)
 facing (Data d) = (d, of-data)
 facing (Final d) = (d, of-final)
 
-module _ (e : SparkleEngine) (d : Direction) (n : ℕ) (f : Facing d (e .current .phase)) where
-  update-count : hOf e + n < 2 ^ 64
-      → step e (Call.update n) .outcome ≡ ok (dataWrites d (paramsOf (e .variant)) (hOf e + n))
+module _ (e : SparkleEngine) (d : Direction) (n : ℕ) (f : HasDirection d (e .current .phase)) where
+  update-count : engineHeld e + n < 2 ^ 64
+      → step e (Call.Update n) .outcome ≡ ok (dataWrites d (paramsOf (e .variant)) (engineHeld e + n))
   unfolding step updateOutputLen
   update-count fits = rw (update-fits _ _ _ _ _ f fits)
 
-  output-count : outputSum d (paramsOf (e .variant)) (hOf e + n) < 2 ^ 64
-      → step e (Call.output n) .outcome ≡ ok (endWrites d (paramsOf (e .variant)) (hOf e + n))
+  output-count : outputSum d (paramsOf (e .variant)) (engineHeld e + n) < 2 ^ 64
+      → step e (Call.Output n) .outcome ≡ ok (endWrites d (paramsOf (e .variant)) (engineHeld e + n))
   unfolding step outputLen
   output-count fits = rw (output-fits _ _ _ _ _ f fits)
 
@@ -313,15 +313,15 @@ module _ (e : SparkleEngine) where
   told-count {c} {n} q = rw q (count n)
 
   told-start : (d : Direction) (key nonce header : List ℕ) (size : ℕ)
-      → Told e (Call.start d key nonce size header) (step e (Call.start d key nonce size header) .outcome)
+      → Told e (Call.Init d key nonce size header) (step e (Call.Init d key nonce size header) .outcome)
   told-start d key nonce header size = by-key (ℕ-discrete (length key) (keyOf e))
     where
       by-repeat : (d : Direction) → length key ≡ keyOf e → length nonce ≡ rateOf e → size ≡ keyOf e
-          → Told e (Call.start d key nonce size header) (step e (Call.start d key nonce size header) .outcome)
+          → Told e (Call.Init d key nonce size header) (step e (Call.Init d key nonce size header) .outcome)
       by-repeat Encrypt k n s = by-pair (repeats (paramsOf (e .variant)) (e .pair) key nonce) refl
         where
           by-pair : (b : Bool) → repeats (paramsOf (e .variant)) (e .pair) key nonce ≡ b
-              → Told e (Call.start Encrypt key nonce size header) (step e (Call.start Encrypt key nonce size header) .outcome)
+              → Told e (Call.Init Encrypt key nonce size header) (step e (Call.Init Encrypt key nonce size header) .outcome)
           by-pair true q =
               let t = repeats-true (paramsOf (e .variant)) (e .pair) key nonce q in
               told-number (nonce-reuse k n s (t .0) (t .1) (t .2))
@@ -329,22 +329,22 @@ module _ (e : SparkleEngine) where
       by-repeat Decrypt k n s = told-count (start-opening e key nonce header size k n s)
 
       by-size : length key ≡ keyOf e → length nonce ≡ rateOf e → Dec (size ≡ keyOf e)
-          → Told e (Call.start d key nonce size header) (step e (Call.start d key nonce size header) .outcome)
+          → Told e (Call.Init d key nonce size header) (step e (Call.Init d key nonce size header) .outcome)
       by-size k n (Dec.no w) = told-number (mac-size k n w)
       by-size k n (Dec.yes s) = by-repeat d k n s
 
       by-nonce : length key ≡ keyOf e → Dec (length nonce ≡ rateOf e)
-          → Told e (Call.start d key nonce size header) (step e (Call.start d key nonce size header) .outcome)
+          → Told e (Call.Init d key nonce size header) (step e (Call.Init d key nonce size header) .outcome)
       by-nonce k (Dec.no w) = told-number (nonce-length k w)
       by-nonce k (Dec.yes n) = by-size k n (ℕ-discrete size (keyOf e))
 
       by-key : Dec (length key ≡ keyOf e)
-          → Told e (Call.start d key nonce size header) (step e (Call.start d key nonce size header) .outcome)
+          → Told e (Call.Init d key nonce size header) (step e (Call.Init d key nonce size header) .outcome)
       by-key (Dec.no w) = told-number (key-length w)
       by-key (Dec.yes k) = by-nonce k (ℕ-discrete (length nonce) (rateOf e))
 
   told-header : (phase : Phase) (input : List ℕ) → e .current .phase ≡ phase
-      → Told e (Call.header input) (step e (Call.header input) .outcome)
+      → Told e (Call.Aad input) (step e (Call.Aad input) .outcome)
   unfolding step processAadBytes aadCheck
   told-header phase [] q = count 0
   told-header Uninitialized (x ∷ input) q =
@@ -356,91 +356,91 @@ module _ (e : SparkleEngine) where
   told-header (Final d) (x ∷ input) q =
       let some : 0 < length (x ∷ input) = omega arith in told-number (header-finalized some q)
 
-  told-taken : (d : Direction) (input out : List ℕ) → Taking d (e .current .phase)
-      → Told e (Call.message input out) (step e (Call.message input out) .outcome)
-  told-taken d input out t = by-sum (decLt (hOf e + length input) (2 ^ 64))
+  told-taken : (d : Direction) (input out : List ℕ) → Active d (e .current .phase)
+      → Told e (Call.Data input out) (step e (Call.Data input out) .outcome)
+  told-taken d input out t = by-sum (decLt (engineHeld e + length input) (2 ^ 64))
     where
-      by-room : hOf e + length input < 2 ^ 64
-          → Dec (length out < dataWrites d (paramsOf (e .variant)) (hOf e + length input))
-          → Told e (Call.message input out) (step e (Call.message input out) .outcome)
+      by-room : engineHeld e + length input < 2 ^ 64
+          → Dec (length out < dataWrites d (paramsOf (e .variant)) (engineHeld e + length input))
+          → Told e (Call.Data input out) (step e (Call.Data input out) .outcome)
       by-room fits (Dec.yes short) = told-number (data-room t fits short)
       by-room fits (Dec.no w) = told-count (data-count e d input out t fits (omega arith))
 
-      by-sum : Dec (hOf e + length input < 2 ^ 64)
-          → Told e (Call.message input out) (step e (Call.message input out) .outcome)
-      by-sum (Dec.yes fits) = by-room fits (decLt (length out) (dataWrites d (paramsOf (e .variant)) (hOf e + length input)))
-      by-sum (Dec.no w) = let over : 2 ^ 64 ≤ hOf e + length input = omega arith in told-number (data-sum t over)
+      by-sum : Dec (engineHeld e + length input < 2 ^ 64)
+          → Told e (Call.Data input out) (step e (Call.Data input out) .outcome)
+      by-sum (Dec.yes fits) = by-room fits (decLt (length out) (dataWrites d (paramsOf (e .variant)) (engineHeld e + length input)))
+      by-sum (Dec.no w) = let over : 2 ^ 64 ≤ engineHeld e + length input = omega arith in told-number (data-sum t over)
 
   told-message : (phase : Phase) (input out : List ℕ) → e .current .phase ≡ phase
-      → Told e (Call.message input out) (step e (Call.message input out) .outcome)
+      → Told e (Call.Data input out) (step e (Call.Data input out) .outcome)
   told-message Uninitialized input out q = told-number (data-not-initialized q)
   told-message (Init d) input out q = told-taken d input out (rw q in-init)
   told-message (Aad d) input out q = told-taken d input out (rw q in-aad)
   told-message (Data d) input out q = told-taken d input out (rw q in-data)
   told-message (Final d) input out q = told-number (data-finalized q)
 
-  told-ended : (d : Direction) (out : List ℕ) → Taking d (e .current .phase)
-      → Told e (Call.end out) (step e (Call.end out) .outcome)
-  told-ended d out t = by-room d t (decLt (length out) (endWrites d (paramsOf (e .variant)) (hOf e)))
+  told-ended : (d : Direction) (out : List ℕ) → Active d (e .current .phase)
+      → Told e (Call.Final out) (step e (Call.Final out) .outcome)
+  told-ended d out t = by-room d t (decLt (length out) (endWrites d (paramsOf (e .variant)) (engineHeld e)))
     where
-      by-tag : Taking Decrypt (e .current .phase) → keyOf e ≤ hOf e → hOf e - keyOf e ≤ length out
-          → Told e (Call.end out) (step e (Call.end out) .outcome)
+      by-tag : Active Decrypt (e .current .phase) → keyOf e ≤ engineHeld e → engineHeld e - keyOf e ≤ length out
+          → Told e (Call.Final out) (step e (Call.Final out) .outcome)
       by-tag t whole enough = go (same (receivedTag e) (openTag e)) refl
         where
           q : e .current .phase ≡ Data Decrypt
           q = whole-in-data _ _ _ (sizes (e .variant) .key-positive) t whole
 
-          go : (b : Bool) → same (receivedTag e) (openTag e) ≡ b → Told e (Call.end out) (step e (Call.end out) .outcome)
+          go : (b : Bool) → same (receivedTag e) (openTag e) ≡ b → Told e (Call.Final out) (step e (Call.Final out) .outcome)
           go true equal = told-count (open-count e out q whole enough (equal-of-same _ _ equal))
           go false differs =
               let wrong : receivedTag e ≡ openTag e → ⊥ =
               (λ equal. let w = same-of-equal _ _ equal in let z : _≡_ {A = ℕ} 0 1 = cc in omega arith)
               in told-number (tag-differs q whole enough wrong)
 
-      by-length : Taking Decrypt (e .current .phase) → hOf e - keyOf e ≤ length out → Dec (hOf e < keyOf e)
-          → Told e (Call.end out) (step e (Call.end out) .outcome)
+      by-length : Active Decrypt (e .current .phase) → engineHeld e - keyOf e ≤ length out → Dec (engineHeld e < keyOf e)
+          → Told e (Call.Final out) (step e (Call.Final out) .outcome)
       by-length t enough (Dec.yes short) = told-number (no-tag t short)
       by-length t enough (Dec.no w) = by-tag t (omega arith) enough
 
-      by-room : (d : Direction) → Taking d (e .current .phase)
-          → Dec (length out < endWrites d (paramsOf (e .variant)) (hOf e))
-          → Told e (Call.end out) (step e (Call.end out) .outcome)
+      by-room : (d : Direction) → Active d (e .current .phase)
+          → Dec (length out < endWrites d (paramsOf (e .variant)) (engineHeld e))
+          → Told e (Call.Final out) (step e (Call.Final out) .outcome)
       by-room d t (Dec.yes short) = told-number (end-room t short)
       by-room Encrypt t (Dec.no w) = told-count (seal-count e out t (omega arith))
-      by-room Decrypt t (Dec.no w) = by-length t (omega arith) (decLt (hOf e) (keyOf e))
+      by-room Decrypt t (Dec.no w) = by-length t (omega arith) (decLt (engineHeld e) (keyOf e))
 
   told-end : (phase : Phase) (out : List ℕ) → e .current .phase ≡ phase
-      → Told e (Call.end out) (step e (Call.end out) .outcome)
+      → Told e (Call.Final out) (step e (Call.Final out) .outcome)
   told-end Uninitialized out q = told-number (end-not-initialized q)
   told-end (Init d) out q = told-ended d out (rw q in-init)
   told-end (Aad d) out q = told-ended d out (rw q in-aad)
   told-end (Data d) out q = told-ended d out (rw q in-data)
   told-end (Final d) out q = told-number (end-finalized q)
 
-  told-update : (n : ℕ) → Dec (hOf e + n < 2 ^ 64) → Told e (Call.update n) (step e (Call.update n) .outcome)
+  told-update : (n : ℕ) → Dec (engineHeld e + n < 2 ^ 64) → Told e (Call.Update n) (step e (Call.Update n) .outcome)
   told-update n (Dec.yes fits) =
       let f = facing (e .current .phase) in told-count (update-count e (f .0) n (f .1) fits)
-  told-update n (Dec.no w) = let over : 2 ^ 64 ≤ hOf e + n = omega arith in told-number (update-sum over)
+  told-update n (Dec.no w) = let over : 2 ^ 64 ≤ engineHeld e + n = omega arith in told-number (update-sum over)
 
-  told-output : (n : ℕ) (d : Direction) → Facing d (e .current .phase)
-      → Dec (outputSum d (paramsOf (e .variant)) (hOf e + n) < 2 ^ 64)
-      → Told e (Call.output n) (step e (Call.output n) .outcome)
+  told-output : (n : ℕ) (d : Direction) → HasDirection d (e .current .phase)
+      → Dec (outputSum d (paramsOf (e .variant)) (engineHeld e + n) < 2 ^ 64)
+      → Told e (Call.Output n) (step e (Call.Output n) .outcome)
   told-output n d f (Dec.yes fits) = told-count (output-count e d n f fits)
   told-output n d f (Dec.no w) =
-      let over : 2 ^ 64 ≤ outputSum d (paramsOf (e .variant)) (hOf e + n) = omega arith in told-number (output-sum f over)
+      let over : 2 ^ 64 ≤ outputSum d (paramsOf (e .variant)) (engineHeld e + n) = omega arith in told-number (output-sum f over)
 
   told : (c : Call) → Told e c (step e c .outcome)
   unfolding step
-  told (Call.start d key nonce size header) = told-start d key nonce header size
-  told (Call.header input) = told-header (e .current .phase) input refl
-  told (Call.message input out) = told-message (e .current .phase) input out refl
-  told (Call.end out) = told-end (e .current .phase) out refl
-  told Call.reset = count 0
-  told Call.tag = count _
-  told (Call.update n) = told-update n (decLt (hOf e + n) (2 ^ 64))
-  told (Call.output n) =
+  told (Call.Init d key nonce size header) = told-start d key nonce header size
+  told (Call.Aad input) = told-header (e .current .phase) input refl
+  told (Call.Data input out) = told-message (e .current .phase) input out refl
+  told (Call.Final out) = told-end (e .current .phase) out refl
+  told Call.Reset = count 0
+  told Call.Mac = count _
+  told (Call.Update n) = told-update n (decLt (engineHeld e + n) (2 ^ 64))
+  told (Call.Output n) =
       let f = facing (e .current .phase) in
-      told-output n (f .0) (f .1) (decLt (outputSum (f .0) (paramsOf (e .variant)) (hOf e + n)) (2 ^ 64))
+      told-output n (f .0) (f .1) (decLt (outputSum (f .0) (paramsOf (e .variant)) (engineHeld e + n)) (2 ^ 64))
 
   -- And it comes back nowhere else.
   pub comes-back-refused : (c : Call) (r : List ℕ) → step e c .outcome ≡ no r → Refused e c r
@@ -477,8 +477,8 @@ numbered e c r (end-finalized q) = unchanging ten
 numbered e c r (nonce-reuse k n s loaded key nonce) = of-start eleven
 
 -- A call that is refused comes back with one of eleven numbers.
-pub eleven-numbers : (e : SparkleEngine) (c : Call) (r : List ℕ) → step e c .outcome ≡ no r → Numbered r
-eleven-numbers e c r q = numbered e c r (comes-back-refused e c r q)
+pub refusal-numbers : (e : SparkleEngine) (c : Call) (r : List ℕ) → step e c .outcome ≡ no r → Numbered r
+refusal-numbers e c r q = numbered e c r (comes-back-refused e c r q)
 
 -- Every call comes back with a count or with one of them.
 pub returned : (e : SparkleEngine) (c : Call) → Returned (step e c .outcome)
@@ -486,7 +486,7 @@ returned e c = by (step e c .outcome) refl
   where
     by : (o : Outcome) → step e c .outcome ≡ o → Returned o
     by (ok n) q = work-done n
-    by (no r) q = one-of-eleven (eleven-numbers e c r q)
+    by (no r) q = numbered-refusal (refusal-numbers e c r q)
 
 start-leaves : (k : AeadInitResult) (e : SparkleEngine) (d : Direction) (key nonce header r : List ℕ)
     → startOutcome (initBy k e d key nonce header .answer) ≡ no r → initBy k e d key nonce header .engine ≡ refused e
@@ -496,7 +496,7 @@ start-leaves (StartErr x) e d key nonce header r q = refl
 module _ (e : SparkleEngine) where
   -- A refused start leaves no message, and of what was kept only the last loaded pair.
   pub start-wipes : (d : Direction) (key nonce header r : List ℕ) (size : ℕ)
-      → step e (Call.start d key nonce size header) .outcome ≡ no r → Wiped e (Call.start d key nonce size header)
+      → step e (Call.Init d key nonce size header) .outcome ≡ no r → Wiped e (Call.Init d key nonce size header)
   unfolding step initCall refused
   start-wipes d key nonce header r size q =
       record {
@@ -533,19 +533,19 @@ data-leaves (Err x) e input out r q = (refl, refl)
 data-leaves (Ok n) e input out r q = absurd (let z : _≡_ {A = ℕ} 0 1 = cc in omega arith)
 
 module _ (e : SparkleEngine) where
-  header-unchanged : (input r : List ℕ) → step e (Call.header input) .outcome ≡ no r → Unchanged e (Call.header input)
+  header-unchanged : (input r : List ℕ) → step e (Call.Aad input) .outcome ≡ no r → Unchanged e (Call.Aad input)
   unfolding step processAadBytes
   header-unchanged input r q =
       record { engine = header-leaves (aadCheck (e .current .phase) (length input)) e input r q; buffer = refl }
 
-  data-unchanged : (input out r : List ℕ) → step e (Call.message input out) .outcome ≡ no r
-      → Unchanged e (Call.message input out)
+  data-unchanged : (input out r : List ℕ) → step e (Call.Data input out) .outcome ≡ no r
+      → Unchanged e (Call.Data input out)
   unfolding step processBytes processBytesOut
   data-unchanged input out r q =
       let t = data-leaves (dataAnswer e (length input) (length out)) e input out r q in
       record { engine = t .0; buffer = t .1 }
 
-  end-unchanged : (out : List ℕ) (x : AeadError) → finalAnswer e (length out) ≡ Err x → Unchanged e (Call.end out)
+  end-unchanged : (out : List ℕ) (x : AeadError) → finalAnswer e (length out) ≡ Err x → Unchanged e (Call.Final out)
   unfolding step doFinal doFinalOut
   end-unchanged out x h = record { engine = rw h; buffer = rw h }
 
@@ -576,24 +576,24 @@ module _ (e : SparkleEngine) where
 -- ---- A failed tag
 
 opening-end-out : (e : SparkleEngine) (n : ℕ) (out : List ℕ) (b : Bool) → e .current .phase ≡ Data Decrypt
-    → same (receivedTag e) (openTag e) ≡ b → finalOutBy (Ok n) e out ≡ written (openEndOutBy b e) out
+    → same (receivedTag e) (openTag e) ≡ b → finalOutBy (Ok n) e out ≡ written (openEndOut b e) out
 opening-end-out e n out b q h = rw (begun e Decrypt q, h, q)
 
 module _ (e : SparkleEngine) (array : length (e .current .buffer) ≡ 64) (q : e .current .phase ≡ Data Decrypt) where
-  length-held : length (heldBytes (paramsOf (e .variant)) (e .current)) ≡ hOf e
-  unfolding heldBytes
+  length-held : length (buffered (paramsOf (e .variant)) (e .current)) ≡ engineHeld e
+  unfolding buffered
   length-held = rw (length-take, q) (omega (arith, small (e .variant)))
 
-  length-openBlock : length (openBlock e) ≡ hOf e - keyOf e
+  length-openBlock : length (openBlock e) ≡ engineHeld e - keyOf e
   unfolding openBlock
   length-openBlock = rw (length-take, length-held) (omega arith)
 
-  module _ (out : List ℕ) (whole : keyOf e ≤ hOf e) (enough : hOf e - keyOf e ≤ length out)
+  module _ (out : List ℕ) (whole : keyOf e ≤ engineHeld e) (enough : engineHeld e - keyOf e ≤ length out)
       (differs : receivedTag e ≡ openTag e → ⊥) where
     failed : Failed e out
-    unfolding step doFinal doFinalOut ended addSteps lastSteps written zeros
+    unfolding step doFinal doFinalOut finalEngine addSteps lastSteps written zeros
     failed =
-        let t : Taking Decrypt (e .current .phase) = rw q in-data in
+        let t : Active Decrypt (e .current .phase) = rw q in-data in
         let w = not-same _ _ differs in
         let taken = open-taken _ (small (e .variant)) _ _ (length out) t whole enough in
         record {
@@ -605,8 +605,8 @@ module _ (e : SparkleEngine) (array : length (e .current .buffer) ≡ 64) (q : e
 
 -- 6 comes from an end. The buffer of the engine is an array of 64 bytes.
 pub six-leaves : (e : SparkleEngine) (c : Call) (values : List ℕ) → length (e .current .buffer) ≡ 64
-    → step e c .outcome ≡ no (6 ∷ values) → (out : List ℕ) × (c ≡ Call.end out) × Failed e out
+    → step e c .outcome ≡ no (6 ∷ values) → (out : List ℕ) × (c ≡ Call.Final out) × Failed e out
 six-leaves e c values array q = go c values (comes-back-refused e c (6 ∷ values) q)
   where
-    go : (c : Call) (values : List ℕ) → Refused e c (6 ∷ values) → (out : List ℕ) × (c ≡ Call.end out) × Failed e out
+    go : (c : Call) (values : List ℕ) → Refused e c (6 ∷ values) → (out : List ℕ) × (c ≡ Call.Final out) × Failed e out
     go c values (tag-differs {out} p whole enough differs) = (out, refl, failed e array p out whole enough differs)

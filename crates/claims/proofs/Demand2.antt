@@ -30,8 +30,8 @@ use Rattle.tc_aead_cipher.proofs.VariantLaws.{sizes, small, keep-bound}
 use Rattle.tc_aead_cipher.specs.Call.{Call}
 use Rattle.tc_sparkle_aead.specs.Sheet.{step, runFrom, run}
 use Rattle.tc_aead_cipher.specs.Outcome.{Outcome, startOutcome}
-use Rattle.claims.specs.Reader.{heldOf, read, reader}
-use Rattle.claims.specs.Messages.{released, Writes, Each, endOutcome, answerOf, messageOf, Ended}
+use Rattle.claims.specs.Reader.{readerHeld, read, reader}
+use Rattle.claims.specs.Messages.{released, Writes, Each, endOutcome, answerOf, messageOf, EndsWith}
 use Rattle.claims.specs.Messages.{finishedBytes, OpenEndExact, Before, stepsBefore, stepsAfterInit, Keeps}
 use Rattle.claims.proofs.Points.{blockPoint}
 use Rattle.claims.proofs.Kept.{Standing, Sealed, openedMac, headCount, dataCount, headPoint, dataPoint, pointIn}
@@ -42,25 +42,25 @@ use Rattle.claims.proofs.Written.{SealEnd, OpenEnd, end-ended, message-
 
 module _ (v : SparkleVariant) (calls : List Call) where
   -- An accepted data call writes the specification's next bytes.
-  pub message-bytes : (input out : List ℕ) (n : ℕ) → step (run v calls) (Call.message input out) .outcome ≡ Outcome.ok n
+  pub message-bytes : (input out : List ℕ) (n : ℕ) → step (run v calls) (Call.Data input out) .outcome ≡ Outcome.ok n
       → Writes (released (paramsOf v) (reader v calls))
-      (released (paramsOf v) (read (paramsOf v) (reader v calls) (Call.message input out) .reader)) out
-      (step (run v calls) (Call.message input out) .buffer) n
+      (released (paramsOf v) (read (paramsOf v) (reader v calls) (Call.Data input out) .reader)) out
+      (step (run v calls) (Call.Data input out) .buffer) n
   message-bytes = message-writes-next v (run v calls) (reader v calls) (follows-run v calls)
 
   -- A sealing's end past its checks is accepted, and with its bytes the bytes are the specification's packet.
   pub seal-end-bytes : (out : List ℕ) (n : ℕ) → opening (reader v calls .phase) ≡ false
-      → endCheck (paramsOf v) (reader v calls .phase) (heldOf (paramsOf v) (reader v calls)) (length out) ≡ Ok n
-      → SealEnd v (reader v calls) out n (step (run v calls) (Call.end out))
+      → endCheck (paramsOf v) (reader v calls .phase) (readerHeld (paramsOf v) (reader v calls)) (length out) ≡ Ok n
+      → SealEnd v (reader v calls) out n (step (run v calls) (Call.Final out))
   seal-end-bytes out n o passed = seal-end v (run v calls) (reader v calls) (follows-run v calls) out n passed o
 
   -- An opening's end past its checks is accepted exactly when the packet is verified; then the bytes are what the packet
   -- decrypts to, else what would have been written is zeros.
   pub open-end-bytes : (out : List ℕ) (n : ℕ) → opening (reader v calls .phase) ≡ true
-      → endCheck (paramsOf v) (reader v calls .phase) (heldOf (paramsOf v) (reader v calls)) (length out) ≡ Ok n
+      → endCheck (paramsOf v) (reader v calls .phase) (readerHeld (paramsOf v) (reader v calls)) (length out) ≡ Ok n
       → OpenEnd v (reader v calls) out n
       (verified (paramsOf v) (reader v calls .key) (reader v calls .nonce) (reader v calls .header) (reader v calls .body))
-      (step (run v calls) (Call.end out))
+      (step (run v calls) (Call.Final out))
   open-end-bytes out n o passed = open-end v (run v calls) (reader v calls) (follows-run v calls) out n passed o
 
 exact-ok : (g : Bool) (n : ℕ) (o : Outcome) → o ≡ cond g (Outcome.ok n) (Outcome.no (6 ∷ []))
@@ -76,8 +76,8 @@ exact-no true n o e =
     (λ h. absurd (let z : _≡_ {A = ℕ} 0 1 = cc in omega arith), λ h. absurd (let z : _≡_ {A = ℕ} 0 1 = cc in omega arith))
 
 pub open-end-exact : (v : SparkleVariant) (calls : List Call) (out : List ℕ) (n : ℕ) → opening (reader v calls .phase) ≡ true
-    → endCheck (paramsOf v) (reader v calls .phase) (heldOf (paramsOf v) (reader v calls)) (length out) ≡ Ok n
-    → OpenEndExact v (reader v calls) n (step (run v calls) (Call.end out) .outcome)
+    → endCheck (paramsOf v) (reader v calls .phase) (readerHeld (paramsOf v) (reader v calls)) (length out) ≡ Ok n
+    → OpenEndExact v (reader v calls) n (step (run v calls) (Call.Final out) .outcome)
 open-end-exact v calls out n o passed =
     let r = reader v calls in
     let w = open-end-bytes v calls out n o passed .outcome-is in
@@ -89,12 +89,12 @@ open-end-exact v calls out n o passed =
 -- After an end past its checks the readable tag is the specification's of the message, unless an opening's packet was not
 -- verified, where none can be read; and the steps are the specification's.
 pub end-tag-and-steps : (v : SparkleVariant) (calls : List Call) (out : List ℕ) (n : ℕ)
-    → endCheck (paramsOf v) (reader v calls .phase) (heldOf (paramsOf v) (reader v calls)) (length out) ≡ Ok n
-    → Ended v (reader v calls)
+    → endCheck (paramsOf v) (reader v calls .phase) (readerHeld (paramsOf v) (reader v calls)) (length out) ≡ Ok n
+    → EndsWith v (reader v calls)
     (cond (opening (reader v calls .phase))
     (verified (paramsOf v) (reader v calls .key) (reader v calls .nonce) (reader v calls .header)
     (reader v calls .body)) true)
-    (step (run v calls) (Call.end out) .engine)
+    (step (run v calls) (Call.Final out) .engine)
 end-tag-and-steps v calls out n passed = end-ended v (run v calls) (reader v calls) (follows-run v calls) out n passed
 
 -- What an accepted end says: its checks passed, and an opening's packet is verified.
@@ -105,30 +105,30 @@ end-passed (Ok m) true true n e = (let z : m ≡ n = cc in ap Ok z, refl)
 end-passed (Ok m) true false n e = absurd (let z : _≡_ {A = ℕ} 0 1 = cc in omega arith)
 
 module _ (v : SparkleVariant) (calls : List Call) (out : List ℕ) (n : ℕ)
-    (accepted : step (run v calls) (Call.end out) .outcome ≡ Outcome.ok n) where
-  pub passed : (endCheck (paramsOf v) (reader v calls .phase) (heldOf (paramsOf v) (reader v calls)) (length out) ≡ Ok n)
+    (accepted : step (run v calls) (Call.Final out) .outcome ≡ Outcome.ok n) where
+  pub passed : (endCheck (paramsOf v) (reader v calls .phase) (readerHeld (paramsOf v) (reader v calls)) (length out) ≡ Ok n)
       × (cond (opening (reader v calls .phase))
       (verified (paramsOf v) (reader v calls .key) (reader v calls .nonce) (reader v calls .header)
       (reader v calls .body)) true ≡ true)
   unfolding answerOf
-  passed = end-passed _ _ _ n (sym (answers v calls (Call.end out) tt) ∙ accepted)
+  passed = end-passed _ _ _ n (sym (answers v calls (Call.Final out) tt) ∙ accepted)
 
   -- An accepted end completes the bytes.
   pub end-bytes : Writes (released (paramsOf v) (reader v calls)) (finishedBytes (paramsOf v) (reader v calls)) out
-      (step (run v calls) (Call.end out) .buffer) n
+      (step (run v calls) (Call.Final out) .buffer) n
   unfolding finishedBytes
   end-bytes = by (opening (reader v calls .phase)) refl
     where
       by : (o : Bool) → opening (reader v calls .phase) ≡ o
           → Writes (released (paramsOf v) (reader v calls)) (finishedBytes (paramsOf v) (reader v calls)) out
-          (step (run v calls) (Call.end out) .buffer) n
+          (step (run v calls) (Call.Final out) .buffer) n
       by true o = rw o (open-end-bytes v calls out n o (passed .0) .good-bytes (rw o at (passed .1)))
       by false o = rw o (seal-end-bytes v calls out n o (passed .0) .bytes-are)
 
   -- After an accepted end the readable tag is the specification's of the message, and the steps are the specification's.
-  pub end-accepted : Ended v (reader v calls) true (step (run v calls) (Call.end out) .engine)
+  pub end-accepted : EndsWith v (reader v calls) true (step (run v calls) (Call.Final out) .engine)
   end-accepted =
-      subst (λ (g : Bool). Ended v (reader v calls) g (step (run v calls) (Call.end out) .engine)) (passed .1)
+      subst (λ (g : Bool). EndsWith v (reader v calls) g (step (run v calls) (Call.Final out) .engine)) (passed .1)
       (end-tag-and-steps v calls out n (passed .0))
 
 no-tag : (mac : Mac) → mac ≡ noMac → mac .readable ≡ true → ⊥
@@ -251,7 +251,7 @@ initial-steps p (Final d) initial = refl
 
 -- Every reset returns to the count after init.
 pub steps-reset : (v : SparkleVariant) (calls : List Call)
-    → stepsNow (step (run v calls) Call.reset .engine)
+    → stepsNow (step (run v calls) Call.Reset .engine)
     ≡ stepsAfterInit (paramsOf v) (reader v calls .phase) (reader v calls .initial) % 2 ^ 64
 unfolding stepsNow step resetEngine resetSteps
 steps-reset v calls =
@@ -271,8 +271,8 @@ steps-start StartOk e d key nonce header values o = absurd (let z : _≡_ {A = �
 steps-start (StartErr x) e d key nonce header values o = refl
 
 pub steps-refused-start : (e : SparkleEngine) (d : Direction) (key nonce : List ℕ) (size : ℕ) (header values : List ℕ)
-    → step e (Call.start d key nonce size header) .outcome ≡ Outcome.no values
-    → stepsNow (step e (Call.start d key nonce size header) .engine) ≡ 0
+    → step e (Call.Init d key nonce size header) .outcome ≡ Outcome.no values
+    → stepsNow (step e (Call.Init d key nonce size header) .engine) ≡ 0
 unfolding step init
 steps-refused-start e d key nonce size header values o =
     let p = paramsOf (e .variant) in
@@ -285,18 +285,18 @@ steps-refused-start e d key nonce size header values o =
 pub final-keeps : (e : SparkleEngine) (d : Direction) → e .current .phase ≡ Final d → (c : Call) → Keeps c → step e c .engine
     ≡ e
 unfolding step processAadBytes processBytes doFinal dataCheck endCheck
-final-keeps e d is (Call.start x key nonce size h) k = absurd k
-final-keeps e d is (Call.header []) k = unfold aadCheck in refl
-final-keeps e d is (Call.header (x ∷ input)) k =
+final-keeps e d is (Call.Init x key nonce size h) k = absurd k
+final-keeps e d is (Call.Aad []) k = unfold aadCheck in refl
+final-keeps e d is (Call.Aad (x ∷ input)) k =
     ap (λ (y : AeadResult). aadBy y e (x ∷ input) .engine) (aad-some (e .current .phase) (length input) ∙ ap headerCheck is)
-final-keeps e d is (Call.message input out) k =
+final-keeps e d is (Call.Data input out) k =
     ap (λ (x : Phase). dataBy (dataCheck (paramsOf (e .variant)) x (e .current .held) (length input) (length out)) e input .engine) is
-final-keeps e d is (Call.end out) k =
+final-keeps e d is (Call.Final out) k =
     ap (λ (x : Phase). finalBy (endCheck (paramsOf (e .variant)) x (e .current .held) (length out)) e .engine) is
-final-keeps e d is Call.reset k = absurd k
-final-keeps e d is Call.tag k = refl
-final-keeps e d is (Call.update n) k = refl
-final-keeps e d is (Call.output n) k = refl
+final-keeps e d is Call.Reset k = absurd k
+final-keeps e d is Call.Mac k = refl
+final-keeps e d is (Call.Update n) k = refl
+final-keeps e d is (Call.Output n) k = refl
 
 pub final-keeps-all : (e : SparkleEngine) (d : Direction) → e .current .phase ≡ Final d → (calls : List Call)
     → Each Keeps calls

@@ -22,14 +22,14 @@ use Rattle.tc_aead_cipher.specs.declared.aead_init_error.AeadInitResult.{AeadIn
 use Rattle.tc_aead_cipher.specs.declared.aead_init_error.AeadInitResult.the-variants.{Ok as StartOk, Err as StartErr}
 use Rattle.tc_sparkle_aead.specs.declared.engine.SparkleEngine.{SparkleEngine}
 use Rattle.tc_aead_cipher.specs.Variant.{paramsOf}
-use Rattle.tc_aead_cipher.specs.Checks.{opening, heldIn, whole, totalLen, endCheck, startCheck}
+use Rattle.tc_aead_cipher.specs.Checks.{opening, heldData, whole, totalLen, endCheck, startCheck}
 use Rattle.tc_sparkle_aead.specs.Engine.{newEngine, repeats}
 use Rattle.tc_sparkle_aead.specs.Calls.{beginData, receivedTag, openTag}
 use Rattle.tc_aead_cipher.proofs.CheckLaws.{startCheck-key, startCheck-nonce}
 use Rattle.tc_aead_cipher.specs.Call.{Call}
 use Rattle.claims.specs.Shape.{Shape, shape, Alike}
 use Rattle.tc_sparkle_aead.specs.Sheet.{step, Line, line, lines, sheet}
-use Rattle.claims.specs.Reader.{Verdict, verdictOf, Reader, newReader, repeated, heldOf, readStart, readHeader}
+use Rattle.claims.specs.Reader.{Verdict, verdictOf, Reader, newReader, repeated, readerHeld, readStart, readHeader}
 use Rattle.claims.specs.Reader.{readMessage, readEnd, endIn, read, notes, verdicts}
 use Rattle.claims.specs.Reader.Verdict.{None}
 use Rattle.claims.proofs.PublicState.{publicOf, asked, startNote, endNote, next-is, judged-is, line-is}
@@ -93,10 +93,10 @@ lines-and-asked xs ys e f u a = (equal-verdicts xs ys e f u a, equal-lines xs ys
 pub record Linked (v : SparkleVariant) (e : SparkleEngine) (r : Reader) : Type 0 where
   pub variant : e .variant ≡ v
   pub phase : e .current .phase ≡ r .phase
-  pub held : heldIn (paramsOf v) (r .phase) (e .current .held) ≡ heldIn (paramsOf v) (r .phase) (heldOf (paramsOf v) r)
+  pub held : heldData (paramsOf v) (r .phase) (e .current .held) ≡ heldData (paramsOf v) (r .phase) (readerHeld (paramsOf v) r)
   pub pair : (key nonce : List ℕ) → length key ≡ paramsOf v .key → length nonce ≡ paramsOf v .rate
       → repeats (paramsOf v) (e .pair) key nonce ≡ repeated r key nonce
-  pub tag : (available n : ℕ) → endCheck (paramsOf v) (r .phase) (heldOf (paramsOf v) r) available ≡ Ok n
+  pub tag : (available n : ℕ) → endCheck (paramsOf v) (r .phase) (readerHeld (paramsOf v) r) available ≡ Ok n
       → opening (r .phase) ≡ true
       → same (receivedTag (beginData e)) (openTag (beginData e))
       ≡ verified (paramsOf v) (r .key) (r .nonce) (r .header) (r .body)
@@ -124,7 +124,7 @@ start-note p d key nonce size a b h = by-key (ℕ-discrete key (p .key))
     by-key (yes k) = by-nonce k (ℕ-discrete nonce (p .rate))
 
 -- an end's check depends on the held bytes through h
-pub endCheck-held : (p : Params) (phase : Phase) (a b available : ℕ) → heldIn p phase a ≡ heldIn p phase b
+pub endCheck-held : (p : Params) (phase : Phase) (a b available : ℕ) → heldData p phase a ≡ heldData p phase b
     → endCheck p phase a available ≡ endCheck p phase b available
 unfolding endCheck totalLen
 endCheck-held p phase a b available h =
@@ -132,7 +132,7 @@ endCheck-held p phase a b available h =
     simp (h, w)
 
 end-note : (p : Params) (r : Reader) (phase : Phase) (n available : ℕ) (right : Bool)
-    → endCheck p phase (heldOf p r) available ≡ Ok n
+    → endCheck p phase (readerHeld p r) available ≡ Ok n
     → (opening phase ≡ true → right ≡ verified p (r .key) (r .nonce) (r .header) (r .body))
     → cond (opening phase) (verdictOf right) None ≡ endIn phase p r .verdict
 unfolding endCheck
@@ -146,7 +146,7 @@ end-note p r (Data Decrypt) n available right c h = ap verdictOf (h refl)
 end-note p r (Final d) n available right c h = absurd (let z : _≡_ {A = ℕ} 0 1 = cc in omega arith)
 
 readEnd-note : (p : Params) (r : Reader) (k : AeadResult) (available : ℕ) (right : Bool)
-    → endCheck p (r .phase) (heldOf p r) available ≡ k
+    → endCheck p (r .phase) (readerHeld p r) available ≡ k
     → ((n : ℕ) → k ≡ Ok n → opening (r .phase) ≡ true → right ≡ verified p (r .key) (r .nonce) (r .header) (r .body))
     → endNote k (opening (r .phase)) right ≡ readEnd k p r .verdict
 readEnd-note p r (Err x) available right c h = refl
@@ -161,33 +161,33 @@ readMessage-note (Err x) r input = refl
 readMessage-note (Ok n) r input = refl
 
 end-asked : (v w : SparkleVariant) (r : Reader) (phase : Phase) (k available : ℕ) (right : Bool) → w ≡ v → phase ≡ r .phase
-    → heldIn (paramsOf v) (r .phase) k ≡ heldIn (paramsOf v) (r .phase) (heldOf (paramsOf v) r)
-    → ((n : ℕ) → endCheck (paramsOf v) (r .phase) (heldOf (paramsOf v) r) available ≡ Ok n → opening (r .phase) ≡ true
+    → heldData (paramsOf v) (r .phase) k ≡ heldData (paramsOf v) (r .phase) (readerHeld (paramsOf v) r)
+    → ((n : ℕ) → endCheck (paramsOf v) (r .phase) (readerHeld (paramsOf v) r) available ≡ Ok n → opening (r .phase) ≡ true
     → right ≡ verified (paramsOf v) (r .key) (r .nonce) (r .header) (r .body))
     → endNote (endCheck (paramsOf w) phase k available) (opening phase) right
-    ≡ readEnd (endCheck (paramsOf v) (r .phase) (heldOf (paramsOf v) r) available) (paramsOf v) r .verdict
+    ≡ readEnd (endCheck (paramsOf v) (r .phase) (readerHeld (paramsOf v) r) available) (paramsOf v) r .verdict
 end-asked v w r phase k available right variant q h tag =
     let p = paramsOf v in
-    rw (variant, q, endCheck-held p (r .phase) k (heldOf p r) available h)
-    (readEnd-note p r (endCheck p (r .phase) (heldOf p r) available) available right refl tag)
+    rw (variant, q, endCheck-held p (r .phase) k (readerHeld p r) available h)
+    (readEnd-note p r (endCheck p (r .phase) (readerHeld p r) available) available right refl tag)
 
 module _ (v : SparkleVariant) (e : SparkleEngine) (r : Reader) (l : Linked v e r) where
   pub asked-is-read : (c : Call) → asked e c ≡ read (paramsOf v) r c .verdict
   unfolding asked read
-  asked-is-read (Call.start d key nonce size header) =
+  asked-is-read (Call.Init d key nonce size header) =
       let p = paramsOf v in
       rw (l .variant)
       (start-note p d (length key) (length nonce) size (repeats p (e .pair) key nonce) (repeated r key nonce) (l .pair key nonce)
       ∙ readStart-note (startCheck p d (length key) (length nonce) size (repeated r key nonce)) r d key nonce header)
-  asked-is-read (Call.header input) = rw readHeader-note
-  asked-is-read (Call.message input out) = rw readMessage-note
-  asked-is-read (Call.end out) =
+  asked-is-read (Call.Aad input) = rw readHeader-note
+  asked-is-read (Call.Data input out) = rw readMessage-note
+  asked-is-read (Call.Final out) =
       end-asked v (e .variant) r (e .current .phase) (e .current .held) (length out)
       (same (receivedTag (beginData e)) (openTag (beginData e))) (l .variant) (l .phase) (l .held) (l .tag (length out))
-  asked-is-read Call.reset = refl
-  asked-is-read Call.tag = refl
-  asked-is-read (Call.update n) = refl
-  asked-is-read (Call.output n) = refl
+  asked-is-read Call.Reset = refl
+  asked-is-read Call.Mac = refl
+  asked-is-read (Call.Update n) = refl
+  asked-is-read (Call.Output n) = refl
 
 -- ---- Demand 3
 

@@ -21,13 +21,13 @@ use Rattle.tc_sparkle_aead.specs.declared.engine.Mac.{Mac}
 use Rattle.tc_sparkle_aead.specs.declared.engine.Steps.{Steps}
 use Rattle.tc_sparkle_aead.specs.declared.engine.SparkleEngine.{SparkleEngine}
 use Rattle.tc_aead_cipher.specs.Variant.{paramsOf}
-use Rattle.tc_aead_cipher.specs.Checks.{opens, opening, heldIn, aadCheck, dataCheck, endCheck, startCheck}
+use Rattle.tc_aead_cipher.specs.Checks.{opens, opening, heldData, aadCheck, dataCheck, endCheck, startCheck}
 use Rattle.tc_sparkle_aead.specs.Engine.{newEngine, noMac, noSteps, resetSteps}
 use Rattle.tc_sparkle_aead.specs.Calls.{stepsNow}
 use Rattle.tc_sparkle_aead.specs.Calls.{reset as resetEngine}
 use Rattle.tc_aead_cipher.specs.Call.{Call}
 use Rattle.tc_sparkle_aead.specs.Sheet.{step, Line, line, sheet}
-use Rattle.claims.specs.Reader.{Reader, newReader, heldOf, repeated, readStart, aadPhase, readHeader, dataPhase}
+use Rattle.claims.specs.Reader.{Reader, newReader, readerHeld, repeated, readStart, aadPhase, readHeader, dataPhase}
 use Rattle.claims.specs.Reader.{readMessage, endIn, readEnd, resetIn, read}
 use Rattle.claims.specs.Machine.{engine, linesOf, sheetOf, startSteps, messageLength, endSteps, finalSteps, stepsIn}
 use Rattle.claims.specs.Machine.{counts}
@@ -159,10 +159,10 @@ reset-count p r (Final Decrypt) d h q = refl
 
 -- The engine's check of an end is the reader's.
 end-agrees : (v w : SparkleVariant) (r : Reader) (phase : Phase) (k available : ℕ) → w ≡ v → phase ≡ r .phase
-    → heldIn (paramsOf v) (r .phase) k ≡ heldIn (paramsOf v) (r .phase) (heldOf (paramsOf v) r)
-    → endCheck (paramsOf w) phase k available ≡ endCheck (paramsOf v) (r .phase) (heldOf (paramsOf v) r) available
+    → heldData (paramsOf v) (r .phase) k ≡ heldData (paramsOf v) (r .phase) (readerHeld (paramsOf v) r)
+    → endCheck (paramsOf w) phase k available ≡ endCheck (paramsOf v) (r .phase) (readerHeld (paramsOf v) r) available
 end-agrees v w r phase k available variant q h =
-    rw (variant, q, endCheck-held (paramsOf v) (r .phase) k (heldOf (paramsOf v) r) available h)
+    rw (variant, q, endCheck-held (paramsOf v) (r .phase) k (readerHeld (paramsOf v) r) available h)
 
 refused-steps : (k : AeadResult) (x : AeadError) (u : Public) (right : Bool) → k ≡ Err x → endNext k u right .steps ≡ u .steps
 refused-steps k x u right q = rw q
@@ -176,43 +176,43 @@ taken-readable k n u right q sealing = rw (q, sealing)
 module _ (v : SparkleVariant) (e : SparkleEngine) (r : Reader) (w : Follows v e r) where
   same-check : (out : List ℕ)
       → endCheck (paramsOf (e .variant)) (e .current .phase) (e .current .held) (length out)
-      ≡ endCheck (paramsOf v) (r .phase) (heldOf (paramsOf v) r) (length out)
+      ≡ endCheck (paramsOf v) (r .phase) (readerHeld (paramsOf v) r) (length out)
   same-check out =
       let l = linked v e r w in
       end-agrees v (e .variant) r (e .current .phase) (e .current .held) (length out) (l .variant) (l .phase) (l .held)
 
   -- the tag of a sealing that has ended can be read
-  sealed-readable : (out : List ℕ) (k : ℕ) → endCheck (paramsOf v) (r .phase) (heldOf (paramsOf v) r) (length out) ≡ Ok k
-      → opening (r .phase) ≡ false → step e (Call.end out) .engine .mac .readable ≡ true
+  sealed-readable : (out : List ℕ) (k : ℕ) → endCheck (paramsOf v) (r .phase) (readerHeld (paramsOf v) r) (length out) ≡ Ok k
+      → opening (r .phase) ≡ false → step e (Call.Final out) .engine .mac .readable ≡ true
   sealed-readable out k passed sealing =
-      ap (λ (u : Public). u .readable) (next-is e (Call.end out))
+      ap (λ (u : Public). u .readable) (next-is e (Call.Final out))
       ∙ taken-readable (endCheck (paramsOf (e .variant)) (e .current .phase) (e .current .held) (length out)) k (publicOf e)
-      (yes (asked e (Call.end out))) (same-check out ∙ passed) (ap opening (linked v e r w .phase) ∙ sealing)
+      (yes (asked e (Call.Final out))) (same-check out ∙ passed) (ap opening (linked v e r w .phase) ∙ sealing)
 
   header-in-final : (input : List ℕ) (d : Direction) → r .phase ≡ Final d
-      → step e (Call.header input) .engine .steps .current ≡ e .steps .current
+      → step e (Call.Aad input) .engine .steps .current ≡ e .steps .current
   header-in-final input d q =
-      ap (λ (u : Public). u .steps .current) (next-is e (Call.header input))
+      ap (λ (u : Public). u .steps .current) (next-is e (Call.Aad input))
       ∙ ap (λ (s : Steps). s .current)
       (header-steps (aadCheck (e .current .phase) (length input)) (publicOf e) (length input) d (linked v e r w .phase ∙ q))
 
   data-in-final : (input out : List ℕ) (d : Direction) → r .phase ≡ Final d
-      → step e (Call.message input out) .engine .steps .current ≡ e .steps .current
+      → step e (Call.Data input out) .engine .steps .current ≡ e .steps .current
   data-in-final input out d q =
-      ap (λ (u : Public). u .steps .current) (next-is e (Call.message input out))
+      ap (λ (u : Public). u .steps .current) (next-is e (Call.Data input out))
       ∙ ap (λ (s : Steps). s .current)
       (data-steps (paramsOf (e .variant)) (publicOf e) (e .current .phase) (e .current .held) (length input) (length out) d
       (linked v e r w .phase ∙ q))
 
   end-taken : (out : List ℕ) (d : Direction) (k : ℕ)
-      → endCheck (paramsOf v) (r .phase) (heldOf (paramsOf v) r) (length out) ≡ Ok k → opening (r .phase) ≡ opens d
-      → read (paramsOf v) r (Call.end out) .reader .phase ≡ Final d
-      → step e (Call.end out) .engine .steps .current
-      ≡ steps (paramsOf v) (length (read (paramsOf v) r (Call.end out) .reader .header))
-      (messageLength d (paramsOf v) (length (read (paramsOf v) r (Call.end out) .reader .body))) % 2 ^ 64
+      → endCheck (paramsOf v) (r .phase) (readerHeld (paramsOf v) r) (length out) ≡ Ok k → opening (r .phase) ≡ opens d
+      → read (paramsOf v) r (Call.Final out) .reader .phase ≡ Final d
+      → step e (Call.Final out) .engine .steps .current
+      ≡ steps (paramsOf v) (length (read (paramsOf v) r (Call.Final out) .reader .header))
+      (messageLength d (paramsOf v) (length (read (paramsOf v) r (Call.Final out) .reader .body))) % 2 ^ 64
   end-taken out d k passed o q =
-      let f = follows-step v e r w (Call.end out) in
-      let x = read (paramsOf v) r (Call.end out) .reader in
+      let f = follows-step v e r w (Call.Final out) in
+      let x = read (paramsOf v) r (Call.Final out) .reader in
       let st : Standing (paramsOf v) (Final d) (x .loaded) (x .key) (x .nonce) (x .initial) (x .header) (x .body) (f .mac) (f .count) =
       subst (λ (phase : Phase). Standing (paramsOf v) phase (x .loaded) (x .key) (x .nonce) (x .initial) (x .header) (x .body) (f .mac) (f .count))
       q (f .standing)
@@ -222,23 +222,23 @@ module _ (v : SparkleVariant) (e : SparkleEngine) (r : Reader) (w : Follows v e 
       (λ h. sym (ap (λ (y : SparkleEngine). y .mac .readable) (f .same-engine)) ∙ sealed-readable out k passed (o ∙ ap opens h))
 
   end-in-final : (out : List ℕ) (d : Direction) (k : AeadResult)
-      → endCheck (paramsOf v) (r .phase) (heldOf (paramsOf v) r) (length out) ≡ k
+      → endCheck (paramsOf v) (r .phase) (readerHeld (paramsOf v) r) (length out) ≡ k
       → readEnd k (paramsOf v) r .reader .phase ≡ Final d
-      → step e (Call.end out) .engine .steps .current
+      → step e (Call.Final out) .engine .steps .current
       ≡ endSteps (r .phase) (paramsOf v) (e .steps .current) d (readEnd k (paramsOf v) r .reader)
   unfolding read
   end-in-final out d (Err x) c q =
-      ap (λ (u : Public). u .steps .current) (next-is e (Call.end out))
+      ap (λ (u : Public). u .steps .current) (next-is e (Call.Final out))
       ∙ ap (λ (s : Steps). s .current)
       (refused-steps (endCheck (paramsOf (e .variant)) (e .current .phase) (e .current .held) (length out)) x (publicOf e)
-      (yes (asked e (Call.end out))) (same-check out ∙ c))
+      (yes (asked e (Call.Final out))) (same-check out ∙ c))
       ∙ sym (ap (λ (phase : Phase). endSteps phase (paramsOf v) (e .steps .current) d r) q)
   end-in-final out d (Ok k) c q =
       let p = paramsOf v in
-      let x : read p r (Call.end out) .reader ≡ readEnd (Ok k) p r .reader = ap (λ (a : AeadResult). readEnd a p r .reader) c in
-      let o = direction (r .phase) p r d (heldOf p r) (length out) k c q in
-      taken-steps (r .phase) p (readEnd (Ok k) p r .reader) d (step e (Call.end out) .engine .steps .current) (e .steps .current)
-      (heldOf p r) (length out) k c
+      let x : read p r (Call.Final out) .reader ≡ readEnd (Ok k) p r .reader = ap (λ (a : AeadResult). readEnd a p r .reader) c in
+      let o = direction (r .phase) p r d (readerHeld p r) (length out) k c q in
+      taken-steps (r .phase) p (readEnd (Ok k) p r .reader) d (step e (Call.Final out) .engine .steps .current) (e .steps .current)
+      (readerHeld p r) (length out) k c
       (end-taken out d k c o (ap (λ (y : Reader). y .phase) x ∙ q)
       ∙ ap (λ (y : Reader). steps p (length (y .header)) (messageLength d p (length (y .body))) % 2 ^ 64) x)
 
@@ -247,20 +247,20 @@ module _ (v : SparkleVariant) (e : SparkleEngine) (r : Reader) (w : Follows v e 
       → stepsNow (step e c .engine)
       ≡ finalSteps c (r .phase) (paramsOf v) (stepsNow e) d (read (paramsOf v) r c .reader)
   unfolding read stepsNow step
-  steps-in-final (Call.start f key nonce size h) d q =
+  steps-in-final (Call.Init f key nonce size h) d q =
       absurd (start-not-final (startCheck (paramsOf v) f (length key) (length nonce) size (repeated r key nonce)) r f d key nonce h q)
-  steps-in-final (Call.header input) d q =
+  steps-in-final (Call.Aad input) d q =
       header-in-final input d (header-final (aadCheck (r .phase) (length input)) r input d q)
-  steps-in-final (Call.message input out) d q =
+  steps-in-final (Call.Data input out) d q =
       data-in-final input out d
-      (message-final (dataCheck (paramsOf v) (r .phase) (heldOf (paramsOf v) r) (length input) (length out)) r input d q)
-  steps-in-final (Call.end out) d q =
-      end-in-final out d (endCheck (paramsOf v) (r .phase) (heldOf (paramsOf v) r) (length out)) refl q
-  steps-in-final Call.reset d q = unfold resetEngine resetSteps in
+      (message-final (dataCheck (paramsOf v) (r .phase) (readerHeld (paramsOf v) r) (length input) (length out)) r input d q)
+  steps-in-final (Call.Final out) d q =
+      end-in-final out d (endCheck (paramsOf v) (r .phase) (readerHeld (paramsOf v) r) (length out)) refl q
+  steps-in-final Call.Reset d q = unfold resetEngine resetSteps in
       ap (λ (x : SparkleEngine). x .steps .initial) (w .same-engine) ∙ reset-count (paramsOf v) r (r .phase) d refl q
-  steps-in-final Call.tag d q = refl
-  steps-in-final (Call.update n) d q = refl
-  steps-in-final (Call.output n) d q = refl
+  steps-in-final Call.Mac d q = refl
+  steps-in-final (Call.Update n) d q = refl
+  steps-in-final (Call.Output n) d q = refl
 
   steps-after : (c : Call)
       → stepsNow (step e c .engine)

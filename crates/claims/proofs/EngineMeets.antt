@@ -17,7 +17,7 @@ use Rattle.tc_aead_cipher.specs.declared.aead_error.AeadResult.the-variants.{Ok
 use Rattle.tc_sparkle_aead.specs.declared.engine.Mac.{Mac}
 use Rattle.tc_sparkle_aead.specs.declared.engine.SparkleEngine.{SparkleEngine}
 use Rattle.tc_aead_cipher.specs.Variant.{paramsOf}
-use Rattle.tc_aead_cipher.specs.Checks.{opening, keep, heldIn, endCheck}
+use Rattle.tc_aead_cipher.specs.Checks.{opening, keep, heldData, endCheck}
 use Rattle.tc_sparkle_aead.specs.Engine.{zeros, noMessage}
 use Rattle.tc_sparkle_aead.specs.Calls.{beginData, receivedTag, openTag, finalPoint}
 use Rattle.tc_aead_cipher.proofs.VariantLaws.{sizes, small}
@@ -25,13 +25,13 @@ use Rattle.tc_aead_cipher.specs.Call.{Call}
 use Rattle.claims.specs.Shape.{Alike}
 use Rattle.tc_sparkle_aead.specs.Sheet.{step, sheet, run}
 use Rattle.tc_aead_cipher.specs.Outcome.Outcome.{no}
-use Rattle.claims.specs.Reader.{Reader, heldOf, read, reader, verdicts}
+use Rattle.claims.specs.Reader.{Reader, readerHeld, read, reader, verdicts}
 use Rattle.claims.specs.Messages.{answerOf}
 use Rattle.claims.specs.Refused.{Failed}
 use Rattle.claims.specs.Machine.{engine, after, Demand3}
 use Rattle.claims.proofs.Kept.{Fits, Follows, Standing, engineOf, pointIn, follows-new, headPoint, dataPoint}
 use Rattle.claims.proofs.Kept.{repeats-agree, held-agrees, phase-agrees, end-enough}
-use Rattle.claims.proofs.Follows.{kept, Takes, takes-data, follows-step, follows-run, begun-data, takes-loaded}
+use Rattle.claims.proofs.Follows.{kept, Active, in-data, follows-step, follows-run, begin-data, active-loaded}
 use Rattle.claims.proofs.Follows.{opening-verified}
 use Rattle.claims.proofs.Points.{blockPoint}
 use Rattle.claims.proofs.PublicState.{length-inArray}
@@ -41,28 +41,28 @@ use Rattle.claims.proofs.Meets.{engine-answers, engine-meets-3}
 
 -- the held bytes count in Data, where point and reader agree
 held-linked : (p : Params) (key nonce header body : List ℕ) (phase : Phase)
-    → heldIn p phase (pointIn p phase key nonce header body .held)
-    ≡ heldIn p phase (length body - ready (p .rate) (keep p phase) (length body) * p .rate)
+    → heldData p phase (pointIn p phase key nonce header body .held)
+    ≡ heldData p phase (length body - ready (p .rate) (keep p phase) (length body) * p .rate)
 held-linked p key nonce header body Uninitialized = refl
 held-linked p key nonce header body (Init d) = refl
 held-linked p key nonce header body (Aad d) = refl
-held-linked p key nonce header body (Data d) = ap (heldIn p (Data d)) (held-agrees p key nonce header body d)
+held-linked p key nonce header body (Data d) = ap (heldData p (Data d)) (held-agrees p key nonce header body d)
 held-linked p key nonce header body (Final d) = refl
 
 module _ (v : SparkleVariant) (loaded : Bool) (key nonce initial header body : List ℕ) (mac : Mac) (n : ℕ)
     (f : loaded ≡ true → Fits (paramsOf v) key nonce) where
   -- an opening in a phase that takes an end, with a tag's bytes
-  tag-takes : {phase : Phase} → Takes Decrypt phase → Standing (paramsOf v) phase loaded key nonce initial header body mac n
+  tag-takes : {phase : Phase} → Active Decrypt phase → Standing (paramsOf v) phase loaded key nonce initial header body mac n
       → paramsOf v .key ≤ length body
       → same (receivedTag (beginData (engineOf v (kept loaded key nonce initial phase header body) mac n)))
       (openTag (beginData (engineOf v (kept loaded key nonce initial phase header body) mac n)))
       ≡ verified (paramsOf v) key nonce header body
   tag-takes {phase} t st enough =
-      ap (λ (e : SparkleEngine). same (receivedTag e) (openTag e)) (begun-data v loaded key nonce initial f t header body mac n st)
-      ∙ opening-verified v loaded key nonce initial f (takes-loaded v loaded key nonce initial f t header body mac n st) header body enough
+      ap (λ (e : SparkleEngine). same (receivedTag e) (openTag e)) (begin-data v loaded key nonce initial f t header body mac n st)
+      ∙ opening-verified v loaded key nonce initial f (active-loaded v loaded key nonce initial f t header body mac n st) header body enough
 
   tag-linked : (phase : Phase) → Standing (paramsOf v) phase loaded key nonce initial header body mac n → (available k : ℕ)
-      → endCheck (paramsOf v) phase (heldOf (paramsOf v) (kept loaded key nonce initial phase header body)) available ≡ Ok k
+      → endCheck (paramsOf v) phase (readerHeld (paramsOf v) (kept loaded key nonce initial phase header body)) available ≡ Ok k
       → opening phase ≡ true
       → same (receivedTag (beginData (engineOf v (kept loaded key nonce initial phase header body) mac n)))
       (openTag (beginData (engineOf v (kept loaded key nonce initial phase header body) mac n)))
@@ -83,8 +83,8 @@ module _ (v : SparkleVariant) (loaded : Bool) (key nonce initial header body : L
       absurd (omega arith)
   tag-linked (Data Decrypt) st available k passed opens =
       let h = end-enough (paramsOf v) (Data Decrypt)
-      (heldOf (paramsOf v) (kept loaded key nonce initial (Data Decrypt) header body)) available k refl passed in
-      tag-takes takes-data st (omega arith)
+      (readerHeld (paramsOf v) (kept loaded key nonce initial (Data Decrypt) header body)) available k refl passed in
+      tag-takes in-data st (omega arith)
 
 module _ (v : SparkleVariant) (r : Reader) (mac : Mac) (n : ℕ)
     (f : r .loaded ≡ true → Fits (paramsOf v) (r .key) (r .nonce))
@@ -119,7 +119,7 @@ pub engine-demand-3 : Demand3 engine
 engine-demand-3 = engine-meets-3 Follows linked follows-new keeps
 
 -- Demand 2, the answers: every call but mac, after every list of calls, is answered as the tables say.
-pub engine-answered : (v : SparkleVariant) (before : List Call) (c : Call) → (c ≡ Call.tag → ⊥)
+pub engine-answered : (v : SparkleVariant) (before : List Call) (c : Call) → (c ≡ Call.Mac → ⊥)
     → engine .step (after engine (engine .new v) before) c .line .outcome ≡ answerOf (paramsOf v) (reader v before) c
 engine-answered = engine-answers Follows linked follows-new keeps
 
@@ -141,5 +141,5 @@ run-array v calls =
     ∙ point-array (paramsOf v) (r .phase) (r .key) (r .nonce) (r .header) (r .body)
 
 pub run-six-leaves : (v : SparkleVariant) (calls : List Call) (c : Call) (values : List ℕ)
-    → step (run v calls) c .outcome ≡ no (6 ∷ values) → (out : List ℕ) × (c ≡ Call.end out) × Failed (run v calls) out
+    → step (run v calls) c .outcome ≡ no (6 ∷ values) → (out : List ℕ) × (c ≡ Call.Final out) × Failed (run v calls) out
 run-six-leaves v calls c values q = six-leaves (run v calls) c values (run-array v calls) q

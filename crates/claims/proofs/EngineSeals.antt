@@ -20,8 +20,8 @@ use Rattle.tc_aead_cipher.specs.Call.{Call}
 use Rattle.tc_aead_cipher.specs.Outcome.{outcome}
 use Rattle.tc_sparkle_aead.specs.Sheet.{step, line, run, runFrom}
 use Rattle.tc_aead_cipher.specs.Outcome.Outcome.{ok}
-use Rattle.claims.specs.Reader.{Reader, heldOf, readMessage, read, readFrom, reader}
-use Rattle.claims.specs.Messages.{outputs, AllBetween, begunEngine, wrote, answerOf, handedBy, handed, UnderWay, released}
+use Rattle.claims.specs.Reader.{Reader, readerHeld, readMessage, read, readFrom, reader}
+use Rattle.claims.specs.Messages.{outputs, AllBetween, startedEngine, wrote, answerOf, handedBy, handed, UnderWay, released}
 use Rattle.claims.specs.Messages.{finishedBytes}
 use Rattle.claims.specs.Machine.{engine, linesOf, sheetOf, bytesOf, Piece, dataCalls, joined, pieceCalls, AllOk}
 use Rattle.claims.specs.Machine.{after, handedOf, Demand2}
@@ -29,7 +29,7 @@ use Rattle.claims.specs.Machine.AllOk.{none, more}
 use Rattle.claims.proofs.Kept.{Follows}
 use Rattle.claims.proofs.Follows.{follows-step, follows-run}
 use Rattle.claims.proofs.Written.{outcome-ok}
-use Rattle.claims.proofs.Whole.{startedReader, begun-follows, sealed-taken, opened-taken}
+use Rattle.claims.proofs.Whole.{startedReader, start-follows, sealed-taken, opened-taken}
 use Rattle.claims.proofs.SoFar.{so-far, finished}
 use Rattle.claims.proofs.Meets.{answered}
 use Rattle.claims.proofs.EngineMeets.{linked, engine-answered}
@@ -45,35 +45,35 @@ bytes-outputs e (c ∷ calls) =
 -- the data calls alone
 abbrev messages : List Piece → List Call
 messages [] = []
-messages (x ∷ pieces) = Call.message (x .input) (x .out) ∷ messages pieces
+messages (x ∷ pieces) = Call.Data (x .input) (x .out) ∷ messages pieces
 
-data-calls : (pieces : List Piece) (out : List ℕ) → dataCalls pieces out ≡ messages pieces ++ (Call.end out ∷ [])
+data-calls : (pieces : List Piece) (out : List ℕ) → dataCalls pieces out ≡ messages pieces ++ (Call.Final out ∷ [])
 data-calls [] out = refl
 data-calls (x ∷ pieces) out =
-    ap (λ (l : List Call). Call.message (x .input) (x .out) ∷ l) (data-calls pieces out)
+    ap (λ (l : List Call). Call.Data (x .input) (x .out) ∷ l) (data-calls pieces out)
 
 messages-between : (e : SparkleEngine) (pieces : List Piece) → AllBetween e (messages pieces)
 messages-between e [] = tt
-messages-between e (x ∷ pieces) = (tt, messages-between (step e (Call.message (x .input) (x .out)) .engine) pieces)
+messages-between e (x ∷ pieces) = (tt, messages-between (step e (Call.Data (x .input) (x .out)) .engine) pieces)
 
 -- An accepted data call appends its input.
 message-read : (v : SparkleVariant) (e : SparkleEngine) (r : Reader) → Follows v e r → (input out : List ℕ) (n : ℕ)
-    → step e (Call.message input out) .outcome ≡ ok n
-    → (read (paramsOf v) r (Call.message input out) .reader .header ≡ r .header)
-    × (read (paramsOf v) r (Call.message input out) .reader .body ≡ r .body ++ input)
+    → step e (Call.Data input out) .outcome ≡ ok n
+    → (read (paramsOf v) r (Call.Data input out) .reader .header ≡ r .header)
+    × (read (paramsOf v) r (Call.Data input out) .reader .body ≡ r .body ++ input)
 unfolding read answerOf
 message-read v e r w input out n q =
     let p = paramsOf v in
-    let a : outcome (dataCheck p (r .phase) (heldOf p r) (length input) (length out)) ≡ ok n =
-    sym (answered v e r (linked v e r w) (Call.message input out) (λ h. let z : _≡_ {A = ℕ} 0 1 = cc in omega arith)) ∙ q
+    let a : outcome (dataCheck p (r .phase) (readerHeld p r) (length input) (length out)) ≡ ok n =
+    sym (answered v e r (linked v e r w) (Call.Data input out) (λ h. let z : _≡_ {A = ℕ} 0 1 = cc in omega arith)) ∙ q
     in
-    let c = outcome-ok (dataCheck p (r .phase) (heldOf p r) (length input) (length out)) n a in
+    let c = outcome-ok (dataCheck p (r .phase) (readerHeld p r) (length input) (length out)) n a in
     (ap (λ (k : AeadResult). readMessage k r input .reader .header) c, ap (λ (k : AeadResult). readMessage k r input .reader .body) c)
 
 -- what data calls and an end without refusal leave
 record Gone (v : SparkleVariant) (pieces : List Piece) (out : List ℕ) (e : SparkleEngine) (r : Reader) : Type 0 where
   count : ℕ
-  end-ok : step (runFrom e (messages pieces)) (Call.end out) .outcome ≡ ok count
+  end-ok : step (runFrom e (messages pieces)) (Call.Final out) .outcome ≡ ok count
   header-is : readFrom (paramsOf v) r (messages pieces) .header ≡ r .header
   body-is : readFrom (paramsOf v) r (messages pieces) .body ≡ r .body ++ joined pieces
 
@@ -84,7 +84,7 @@ gone v [] out e r w (more n q none) =
     record { count = n; end-ok = q; header-is = refl; body-is = sym (append-nil (r .body)) }
 gone v (x ∷ pieces) out e r w (more n q all) =
     let p = paramsOf v in
-    let c = Call.message (x .input) (x .out) in
+    let c = Call.Data (x .input) (x .out) in
     let g = gone v pieces out (step e c .engine) (read p r c .reader) (follows-step v e r w c) all in
     let m = message-read v e r w (x .input) (x .out) n q in
     record {
@@ -97,20 +97,20 @@ gone v (x ∷ pieces) out e r w (more n q all) =
 
 -- a message without refusal, by its start
 module _ (v : SparkleVariant) (d : Direction) (key nonce header : List ℕ) (size : ℕ) (pieces : List Piece) (out : List ℕ)
-    (k : ℕ) (taken : step (run v []) (Call.start d key nonce size header) .outcome ≡ ok k)
-    (all : AllOk (linesOf engine (begunEngine v [] d key nonce size header) (dataCalls pieces out))) where
-  left : Gone v pieces out (begunEngine v [] d key nonce size header) (startedReader d key nonce header)
+    (k : ℕ) (taken : step (run v []) (Call.Init d key nonce size header) .outcome ≡ ok k)
+    (all : AllOk (linesOf engine (startedEngine v [] d key nonce size header) (dataCalls pieces out))) where
+  left : Gone v pieces out (startedEngine v [] d key nonce size header) (startedReader d key nonce header)
   left =
-      gone v pieces out (begunEngine v [] d key nonce size header) (startedReader d key nonce header)
-      (begun-follows v [] d key nonce size header (messages pieces) out k taken
-      (messages-between (begunEngine v [] d key nonce size header) pieces)) all
+      gone v pieces out (startedEngine v [] d key nonce size header) (startedReader d key nonce header)
+      (start-follows v [] d key nonce size header (messages pieces) out k taken
+      (messages-between (startedEngine v [] d key nonce size header) pieces)) all
 
   written-outputs : bytesOf engine (newEngine v) (pieceCalls d key nonce header size pieces out)
-      ≡ outputs (run v []) (Call.start d key nonce size header ∷ (messages pieces ++ (Call.end out ∷ [])))
+      ≡ outputs (run v []) (Call.Init d key nonce size header ∷ (messages pieces ++ (Call.Final out ∷ [])))
   unfolding run runFrom
   written-outputs =
       bytes-outputs (newEngine v) (pieceCalls d key nonce header size pieces out)
-      ∙ ap (λ (l : List Call). outputs (newEngine v) (Call.start d key nonce size header ∷ l)) (data-calls pieces out)
+      ∙ ap (λ (l : List Call). outputs (newEngine v) (Call.Init d key nonce size header ∷ l)) (data-calls pieces out)
 
 module _ (v : SparkleVariant) (key nonce header : List ℕ) (size : ℕ) (pieces : List Piece) (out : List ℕ) where
   pub engine-seals : AllOk (sheetOf engine v (pieceCalls Encrypt key nonce header size pieces out))
@@ -121,7 +121,7 @@ module _ (v : SparkleVariant) (key nonce header : List ℕ) (size : ℕ) (pieces
       let g = left v Encrypt key nonce header size pieces out k q all in
       written-outputs v Encrypt key nonce header size pieces out k q all
       ∙ sealed-taken v [] key nonce size header (messages pieces) out k (g .count) q
-      (messages-between (begunEngine v [] Encrypt key nonce size header) pieces) (g .end-ok)
+      (messages-between (startedEngine v [] Encrypt key nonce size header) pieces) (g .end-ok)
       ∙ ap₂ (λ (h m : List ℕ). seal (paramsOf v) key nonce h m) (g .header-is) (g .body-is)
 
   pub engine-opens : AllOk (sheetOf engine v (pieceCalls Decrypt key nonce header size pieces out))
@@ -132,7 +132,7 @@ module _ (v : SparkleVariant) (key nonce header : List ℕ) (size : ℕ) (pieces
       let g = left v Decrypt key nonce header size pieces out k q all in
       written-outputs v Decrypt key nonce header size pieces out k q all
       ∙ opened-taken v [] key nonce size header (messages pieces) out k (g .count) q
-      (messages-between (begunEngine v [] Decrypt key nonce size header) pieces) (g .end-ok) .bytes-are
+      (messages-between (startedEngine v [] Decrypt key nonce size header) pieces) (g .end-ok) .bytes-are
       ∙ ap₂ (λ (h m : List ℕ). decrypt (paramsOf v) key nonce h (body (paramsOf v) m)) (g .header-is) (g .body-is)
 
 -- of every list of calls
@@ -151,13 +151,13 @@ engine-so-far : (v : SparkleVariant) (calls : List Call) → UnderWay (reader v 
 engine-so-far v calls u = handed-is (newEngine v) [] calls ∙ so-far v calls u
 
 engine-completed : (v : SparkleVariant) (calls : List Call) (out : List ℕ) (n : ℕ)
-    → engine .step (after engine (engine .new v) calls) (Call.end out) .line .outcome ≡ ok n
-    → handedOf engine (engine .new v) [] (calls ++ (Call.end out ∷ [])) ≡ finishedBytes (paramsOf v) (reader v calls)
+    → engine .step (after engine (engine .new v) calls) (Call.Final out) .line .outcome ≡ ok n
+    → handedOf engine (engine .new v) [] (calls ++ (Call.Final out ∷ [])) ≡ finishedBytes (paramsOf v) (reader v calls)
 unfolding run line
 engine-completed v calls out n q =
-    handed-is (newEngine v) [] (calls ++ (Call.end out ∷ []))
+    handed-is (newEngine v) [] (calls ++ (Call.Final out ∷ []))
     ∙ finished v calls out n
-    (ap (λ (e : SparkleEngine). step e (Call.end out) .outcome) (sym (after-is (newEngine v) calls)) ∙ q)
+    (ap (λ (e : SparkleEngine). step e (Call.Final out) .outcome) (sym (after-is (newEngine v) calls)) ∙ q)
 
 variant-is : (v : SparkleVariant) (calls : List Call) → after engine (newEngine v) calls .variant ≡ v
 unfolding run
@@ -166,8 +166,8 @@ variant-is v calls =
     ∙ ap (λ (e : SparkleEngine). e .variant) (follows-run v calls .same-engine)
 
 engine-mac-counts : (v : SparkleVariant) (before : List Call)
-    → engine .step (after engine (engine .new v) before) Call.tag .line .outcome
-    ≡ ok (cond (engine .step (after engine (engine .new v) before) Call.tag .line .readable) (paramsOf v .key) 0)
+    → engine .step (after engine (engine .new v) before) Call.Mac .line .outcome
+    ≡ ok (cond (engine .step (after engine (engine .new v) before) Call.Mac .line .readable) (paramsOf v .key) 0)
 unfolding step line
 engine-mac-counts v before =
     ap (λ (w : SparkleVariant). ok (cond (macOf (after engine (newEngine v) before) .readable) (paramsOf w .key) 0))

@@ -26,12 +26,12 @@ use Rattle.tc_sparkle_aead.specs.declared.engine.SparkleEngine.{SparkleEngine}
 use Rattle.tc_aead_cipher.specs.Variant.{paramsOf}
 use Rattle.tc_aead_cipher.specs.Checks.{aadCheck, headerCheck, dataCheck, endCheck, startCheck, updateLen, totalLen}
 use Rattle.tc_sparkle_aead.specs.Engine.{noMessage, noMac, remember, currentKey, noSteps, initSteps, resetSteps, newEngine, updateOutputLen, outputLen}
-use Rattle.tc_sparkle_aead.specs.Calls.{stateIn, heldBytes, addSteps, atPoint, refused, headed, headedSteps, started, initBy, init, aadBy, processAadBytes, beginData, plainOf, dataIn, dataBy, processBytes, lastSteps, sealTag, openBlock, receivedTag, openLast, openTag, finalPoint, ended, readable, sealEnd, openEndBy, openEnd, finalBy, doFinal, dataAnswer, finalAnswer, afterHeader, plainBy, withoutHeader}
+use Rattle.tc_sparkle_aead.specs.Calls.{stateIn, buffered, addSteps, atPoint, refused, absorbHeader, headerSteps, started, initBy, init, aadBy, processAadBytes, beginData, plainOf, dataIn, dataBy, processBytes, lastSteps, sealTag, openBlock, receivedTag, openLast, openTag, finalPoint, finalEngine, readable, sealFinal, openFinalBy, openFinal, finalBy, doFinal, dataAnswer, finalAnswer, afterHeader, plainBy, withoutHeader}
 use Rattle.tc_sparkle_aead.specs.Calls.{reset as resetEngine}
 use Rattle.tc_aead_cipher.proofs.VariantLaws.{sizes, small}
 use Rattle.tc_aead_cipher.specs.Call.{Call}
 use Rattle.tc_sparkle_aead.specs.Sheet.{step, runFrom, run}
-use Rattle.claims.specs.Reader.{Reader, newReader, inPhase, headerPhase, heldOf, repeated, readStart, readHeader}
+use Rattle.claims.specs.Reader.{Reader, newReader, inPhase, headerPhase, readerHeld, repeated, readStart, readHeader}
 use Rattle.claims.specs.Reader.{readMessage, readEnd, resetIn, read, readFrom, reader}
 use Rattle.claims.proofs.Points.{blockPoint}
 use Rattle.claims.proofs.Packets.{last-state, last-steps, length-body, packet-blocks, packet-state, held-block}
@@ -40,16 +40,16 @@ use Rattle.claims.proofs.Kept.{headPoint, dataPoint, pointIn, initialIn
 use Rattle.claims.proofs.Kept.{openedMac, Standing, Fits, Follows, follows-new, holds-init, holds-aad, head-point}
 use Rattle.claims.proofs.Kept.{head-count, started-point, started-count, begin-point-init, begin-point-aad}
 use Rattle.claims.proofs.Kept.{begin-count-init, begin-count-aad, holds-data, state-data, data-point, data-count}
-use Rattle.claims.proofs.Kept.{key-back, repeats-agree, heldNow, data-agrees, update-agrees, total-agrees, end-agrees}
+use Rattle.claims.proofs.Kept.{key-back, repeats-agree, pointHeld, data-agrees, update-agrees, total-agrees, end-agrees}
 use Rattle.claims.proofs.Kept.{phase-agrees, end-enough, start-good, Sealed}
 
 -- ---- The calls
 
 -- the phases that take data, in a direction
-pub data Takes (d : Direction) : Phase → Type 0 where
-  takes-init : Takes d (Init d)
-  takes-aad : Takes d (Aad d)
-  takes-data : Takes d (Data d)
+pub data Active (d : Direction) : Phase → Type 0 where
+  in-init : Active d (Init d)
+  in-aad : Active d (Aad d)
+  in-data : Active d (Data d)
 
 -- a reader by its parts, and the engine in its data
 abbrev pub kept : Bool → (key nonce initial : List ℕ) → Phase → (header body : List ℕ) → Reader
@@ -130,7 +130,7 @@ module _ (v : SparkleVariant) where
         begin-aad : (header : List ℕ) → 0 < length header
             → beginData (engineOf v (keeps (Aad d) header []) noMac (headCount p (length header)))
             ≡ engineOf v (keeps (Data d) header []) noMac (dataCount p d header [])
-        unfolding beginData atPoint addSteps headPoint dataPoint blockPoint withoutHeader afterHeader heldBytes held
+        unfolding beginData atPoint addSteps headPoint dataPoint blockPoint withoutHeader afterHeader buffered held
         begin-aad header some =
             λ i. record {
               variant = v;
@@ -156,26 +156,26 @@ module _ (v : SparkleVariant) where
             }
 
       -- a phase that takes data, in a direction
-      pub begun-data : {phase : Phase} {d : Direction} → Takes d phase → (header body : List ℕ) (mac : Mac) (n : ℕ)
+      pub begin-data : {phase : Phase} {d : Direction} → Active d phase → (header body : List ℕ) (mac : Mac) (n : ℕ)
           → Standing p phase loaded key nonce initial header body mac n
           → beginData (engineOf v (keeps phase header body) mac n)
           ≡ engineOf v (keeps (Data d) header body) noMac (dataCount p d header body)
       unfolding beginData dataPoint blockPoint withoutHeader afterHeader
-      begun-data {d = d} takes-init header body mac n st =
+      begin-data {d = d} in-init header body mac n st =
           (λ i. beginData (engineOf v (keeps (Init d) (st .3 i) (st .4 i)) (st .1 i) ((st .2 ∙ ap (λ (l : List ℕ). headCount p (length l)) (st .3)) i)))
           ∙ begin-init d
           ∙ sym (λ i. engineOf v (keeps (Data d) (st .3 i) (st .4 i)) noMac (dataCount p d (st .3 i) (st .4 i)))
-      begun-data {d = d} takes-aad header body mac n st =
+      begin-data {d = d} in-aad header body mac n st =
           (λ i. beginData (engineOf v (keeps (Aad d) header (st .4 i)) (st .1 i) (st .2 i)))
           ∙ begin-aad d header (st .3)
           ∙ sym (λ i. engineOf v (keeps (Data d) header (st .4 i)) noMac (dataCount p d header (st .4 i)))
-      begun-data {d = d} takes-data header body mac n st = λ i. engineOf v (keeps (Data d) header body) (st .1 i) (st .2 i)
+      begin-data {d = d} in-data header body mac n st = λ i. engineOf v (keeps (Data d) header body) (st .1 i) (st .2 i)
 
-      pub takes-loaded : {phase : Phase} {d : Direction} → Takes d phase → (header body : List ℕ) (mac : Mac) (n : ℕ)
+      pub active-loaded : {phase : Phase} {d : Direction} → Active d phase → (header body : List ℕ) (mac : Mac) (n : ℕ)
           → Standing p phase loaded key nonce initial header body mac n → loaded ≡ true
-      takes-loaded takes-init header body mac n st = st .0
-      takes-loaded takes-aad header body mac n st = st .0
-      takes-loaded takes-data header body mac n st = st .0
+      active-loaded in-init header body mac n st = st .0
+      active-loaded in-aad header body mac n st = st .0
+      active-loaded in-data header body mac n st = st .0
 
       -- a header call
       more-header : (d : Direction) (l : loaded ≡ true) (header body input : List ℕ) (e : SparkleEngine)
@@ -192,18 +192,18 @@ module _ (v : SparkleVariant) where
           }
 
       header-in : (phase : Phase) (d : Direction) (header body : List ℕ) (mac : Mac) (n : ℕ) (x : ℕ) (input : List ℕ)
-          → heldBytes p (headPoint p phase key nonce header) ≡ held (p .rate) 0 header
+          → buffered p (headPoint p phase key nonce header) ≡ held (p .rate) 0 header
           → mac ≡ noMac → n ≡ headCount p (length header)
           → _≡_ {A = SparkleEngine}
           (record {
             variant = v;
-            current = headed p d (headPoint p phase key nonce header) (x ∷ input);
+            current = absorbHeader p d (headPoint p phase key nonce header) (x ∷ input);
             initial = initialIn p (Aad d) key nonce initial;
             pair = pairIn loaded key nonce;
             mac = mac;
             steps =
                 record {
-                  current = (n + headedSteps p (headPoint p phase key nonce header) (x ∷ input)) % 2 ^ 64;
+                  current = (n + headerSteps p (headPoint p phase key nonce header) (x ∷ input)) % 2 ^ 64;
                   initial = headCount p (length initial);
                 };
           })
@@ -218,7 +218,7 @@ module _ (v : SparkleVariant) where
             steps =
                 record {
                   current =
-                      (ap (λ (c : ℕ). (c + headedSteps p (headPoint p phase key nonce header) (x ∷ input)) % 2 ^ 64) counts
+                      (ap (λ (c : ℕ). (c + headerSteps p (headPoint p phase key nonce header) (x ∷ input)) % 2 ^ 64) counts
                       ∙ head-count p (sizes v) (small v) key nonce phase header holds d x input) i;
                   initial = headCount p (length initial);
                 };
@@ -234,7 +234,7 @@ module _ (v : SparkleVariant) where
       header-follows (Init d) header body mac n st x input =
           more-header d (st .0) header body (x ∷ input) _ (simp length-append (omega arith)) (st .4)
           (header-in (Init d) d header body mac n x input
-          (ap (λ (l : List ℕ). heldBytes p (headPoint p (Init d) key nonce l)) (st .3)
+          (ap (λ (l : List ℕ). buffered p (headPoint p (Init d) key nonce l)) (st .3)
           ∙ holds-init p (sizes v) (small v) key nonce d ∙ ap (held (p .rate) 0) (sym (st .3)))
           (st .1) (st .2))
       header-follows (Aad d) header body mac n st x input =
@@ -259,24 +259,24 @@ module _ (v : SparkleVariant) where
             standing = (l, refl, refl);
           }
 
-      data-follows : {phase : Phase} {d : Direction} → Takes d phase → (header body : List ℕ) (mac : Mac) (n : ℕ)
+      data-follows : {phase : Phase} {d : Direction} → Active d phase → (header body : List ℕ) (mac : Mac) (n : ℕ)
           → Standing p phase loaded key nonce initial header body mac n → (input : List ℕ) (k : AeadResult)
           → Follows v (dataBy k (engineOf v (keeps phase header body) mac n) input .engine)
           (readMessage k (keeps phase header body) input .reader)
       data-follows t header body mac n st input (Err x) =
           record { mac = mac; count = n; same-engine = refl; fits = f; standing = st }
-      data-follows {d = d} takes-init header body mac n st input (Ok k) =
-          into-data d (st .0) header body input _ (begun-data {d = d} takes-init header body mac n st)
-      data-follows {d = d} takes-aad header body mac n st input (Ok k) =
-          into-data d (st .0) header body input _ (begun-data {d = d} takes-aad header body mac n st)
-      data-follows {d = d} takes-data header body mac n st input (Ok k) =
-          into-data d (st .0) header body input _ (begun-data {d = d} takes-data header body mac n st)
+      data-follows {d = d} in-init header body mac n st input (Ok k) =
+          into-data d (st .0) header body input _ (begin-data {d = d} in-init header body mac n st)
+      data-follows {d = d} in-aad header body mac n st input (Ok k) =
+          into-data d (st .0) header body input _ (begin-data {d = d} in-aad header body mac n st)
+      data-follows {d = d} in-data header body mac n st input (Ok k) =
+          into-data d (st .0) header body input _ (begin-data {d = d} in-data header body mac n st)
 
       -- the end
       end-engine : (d : Direction) (header body : List ℕ) (mac : Mac) (k c : ℕ) → (dataCount p d header body + k) % 2 ^ 64
           ≡ c
-          → ended (dataEngine d header body) d mac k ≡ engineOf v (keeps (Final d) header body) mac c
-      unfolding ended addSteps
+          → finalEngine (dataEngine d header body) d mac k ≡ engineOf v (keeps (Final d) header body) mac c
+      unfolding finalEngine addSteps
       end-engine d header body mac k c e =
           λ i. record {
             variant = v;
@@ -297,7 +297,7 @@ module _ (v : SparkleVariant) where
         unfolding beforeLast leading plainOf plainBy
         sealing-state = state-data p (sizes v) (small v) Encrypt key nonce header body
 
-        pub sealing-block : heldBytes p (dataPoint p Encrypt key nonce header body) ≡ lastBlock p body
+        pub sealing-block : buffered p (dataPoint p Encrypt key nonce header body) ≡ lastBlock p body
         unfolding lastBlock leading held
         sealing-block = holds-data p (sizes v) (small v) Encrypt key nonce header body
 
@@ -309,7 +309,7 @@ module _ (v : SparkleVariant) where
             (last-state p (sealing p) (prepared p key nonce header) body))
 
         sealing-count :
-            (dataCount p Encrypt header body + lastSteps p (heldBytes p (dataPoint p Encrypt key nonce header body))) % 2 ^ 64
+            (dataCount p Encrypt header body + lastSteps p (buffered p (dataPoint p Encrypt key nonce header body))) % 2 ^ 64
             ≡ steps p (length header) (length body) % 2 ^ 64
         unfolding dataCount steps leading
         sealing-count =
@@ -318,13 +318,13 @@ module _ (v : SparkleVariant) where
             ∙ ap (λ (k : ℕ). k % 2 ^ 64) (omega (arith, last-steps p body)))
 
         pub seal-engine : (k : ℕ)
-            → sealEnd (dataEngine Encrypt header body) k .engine
+            → sealFinal (dataEngine Encrypt header body) k .engine
             ≡ engineOf v (keeps (Final Encrypt) header body) (readable (tag p key nonce header body))
             (steps p (length header) (length body) % 2 ^ 64)
-        unfolding sealEnd
+        unfolding sealFinal
         seal-engine k =
-            ap (λ (t : List ℕ). ended (dataEngine Encrypt header body) Encrypt (readable t)
-            (lastSteps p (heldBytes p (dataPoint p Encrypt key nonce header body)))) sealing-tag
+            ap (λ (t : List ℕ). finalEngine (dataEngine Encrypt header body) Encrypt (readable t)
+            (lastSteps p (buffered p (dataPoint p Encrypt key nonce header body)))) sealing-tag
             ∙ end-engine Encrypt header body _ _ _ sealing-count
 
         -- an opening
@@ -336,7 +336,7 @@ module _ (v : SparkleVariant) where
               state-data p (sizes v) (small v) Decrypt key nonce header body
               ∙ packet-state p body enough (openingBlock p) (prepared p key nonce header)
 
-          opening-holds : heldBytes p (dataPoint p Decrypt key nonce header body)
+          opening-holds : buffered p (dataPoint p Decrypt key nonce header body)
               ≡ held (p .rate) (p .key) body
           opening-holds = holds-data p (sizes v) (small v) Decrypt key nonce header body
 
@@ -380,61 +380,61 @@ module _ (v : SparkleVariant) where
               ∙ ap (λ (k : ℕ). k % 2 ^ 64) (omega (arith, last-steps p (bodyOf p body))))
 
           pub open-engine : (k : ℕ)
-              → openEnd (dataEngine Decrypt header body) k .engine
+              → openFinal (dataEngine Decrypt header body) k .engine
               ≡ engineOf v (keeps (Final Decrypt) header body) (openedMac p key nonce header body)
               (steps p (length header) (length body - p .key) % 2 ^ 64)
-          unfolding openEnd openedMac
+          unfolding openFinal openedMac
           open-engine k =
-              ap (λ (b : Bool). openEndBy b (dataEngine Decrypt header body) k .engine) opening-verified ∙ by
+              ap (λ (b : Bool). openFinalBy b (dataEngine Decrypt header body) k .engine) opening-verified ∙ by
               (verified p key nonce header body)
             where
-              by : (b : Bool) → openEndBy b (dataEngine Decrypt header body) k .engine
+              by : (b : Bool) → openFinalBy b (dataEngine Decrypt header body) k .engine
                   ≡ engineOf v (keeps (Final Decrypt) header body)
                   (cond b (readable (tag p key nonce header (decrypt p key nonce header (bodyOf p body)))) noMac)
                   (steps p (length header) (length body - p .key) % 2 ^ 64)
               by true =
-                  ap (λ (t : List ℕ). ended (dataEngine Decrypt header body) Decrypt (readable t)
+                  ap (λ (t : List ℕ). finalEngine (dataEngine Decrypt header body) Decrypt (readable t)
                   (lastSteps p (openBlock (dataEngine Decrypt header body)))) opening-tag
                   ∙ end-engine Decrypt header body _ _ _ opening-count
               by false = end-engine Decrypt header body _ _ _ opening-count
 
         sealed-follows : (k : ℕ) (e : SparkleEngine) → e ≡ dataEngine Encrypt header body
-            → Follows v (sealEnd e k .engine) (keeps (Final Encrypt) header body)
+            → Follows v (sealFinal e k .engine) (keeps (Final Encrypt) header body)
         sealed-follows k e is =
             record {
               mac = readable (tag p key nonce header body);
               count = steps p (length header) (length body) % 2 ^ 64;
-              same-engine = ap (λ (x : SparkleEngine). sealEnd x k .engine) is ∙ seal-engine k;
+              same-engine = ap (λ (x : SparkleEngine). sealFinal x k .engine) is ∙ seal-engine k;
               fits = f;
               standing = (l, Sealed.finished refl refl);
             }
 
         opened-follows : p .key ≤ length body → (k : ℕ) (e : SparkleEngine) → e ≡ dataEngine Decrypt header body
-            → Follows v (openEnd e k .engine) (keeps (Final Decrypt) header body)
+            → Follows v (openFinal e k .engine) (keeps (Final Decrypt) header body)
         opened-follows enough k e is =
             record {
               mac = openedMac p key nonce header body;
               count = steps p (length header) (length body - p .key) % 2 ^ 64;
-              same-engine = ap (λ (x : SparkleEngine). openEnd x k .engine) is ∙ open-engine enough k;
+              same-engine = ap (λ (x : SparkleEngine). openFinal x k .engine) is ∙ open-engine enough k;
               fits = f;
               standing = (l, refl, refl, enough);
             }
 
-      seal-follows : {phase : Phase} → Takes Encrypt phase → (header body : List ℕ) (mac : Mac) (n : ℕ)
+      seal-follows : {phase : Phase} → Active Encrypt phase → (header body : List ℕ) (mac : Mac) (n : ℕ)
           → Standing p phase loaded key nonce initial header body mac n → (k : AeadResult)
           → Follows v (finalBy k (engineOf v (keeps phase header body) mac n) .engine)
           (readEnd k p (keeps phase header body) .reader)
       unfolding headPoint dataPoint blockPoint
       seal-follows t header body mac n st (Err x) =
           record { mac = mac; count = n; same-engine = refl; fits = f; standing = st }
-      seal-follows takes-init header body mac n st (Ok k) =
-          sealed-follows (st .0) header body k _ (begun-data {d = Encrypt} takes-init header body mac n st)
-      seal-follows takes-aad header body mac n st (Ok k) =
-          sealed-follows (st .0) header body k _ (begun-data {d = Encrypt} takes-aad header body mac n st)
-      seal-follows takes-data header body mac n st (Ok k) =
-          sealed-follows (st .0) header body k _ (begun-data {d = Encrypt} takes-data header body mac n st)
+      seal-follows in-init header body mac n st (Ok k) =
+          sealed-follows (st .0) header body k _ (begin-data {d = Encrypt} in-init header body mac n st)
+      seal-follows in-aad header body mac n st (Ok k) =
+          sealed-follows (st .0) header body k _ (begin-data {d = Encrypt} in-aad header body mac n st)
+      seal-follows in-data header body mac n st (Ok k) =
+          sealed-follows (st .0) header body k _ (begin-data {d = Encrypt} in-data header body mac n st)
 
-      open-follows : {phase : Phase} → Takes Decrypt phase → (header body : List ℕ) (mac : Mac) (n : ℕ)
+      open-follows : {phase : Phase} → Active Decrypt phase → (header body : List ℕ) (mac : Mac) (n : ℕ)
           → Standing p phase loaded key nonce initial header body mac n → (k : AeadResult)
           → ((j : ℕ) → k ≡ Ok j → p .key ≤ length body)
           → Follows v (finalBy k (engineOf v (keeps phase header body) mac n) .engine)
@@ -442,12 +442,12 @@ module _ (v : SparkleVariant) where
       unfolding headPoint dataPoint blockPoint
       open-follows t header body mac n st (Err x) enough =
           record { mac = mac; count = n; same-engine = refl; fits = f; standing = st }
-      open-follows takes-init header body mac n st (Ok k) enough =
-          opened-follows (st .0) header body (enough k refl) k _ (begun-data {d = Decrypt} takes-init header body mac n st)
-      open-follows takes-aad header body mac n st (Ok k) enough =
-          opened-follows (st .0) header body (enough k refl) k _ (begun-data {d = Decrypt} takes-aad header body mac n st)
-      open-follows takes-data header body mac n st (Ok k) enough =
-          opened-follows (st .0) header body (enough k refl) k _ (begun-data {d = Decrypt} takes-data header body mac n st)
+      open-follows in-init header body mac n st (Ok k) enough =
+          opened-follows (st .0) header body (enough k refl) k _ (begin-data {d = Decrypt} in-init header body mac n st)
+      open-follows in-aad header body mac n st (Ok k) enough =
+          opened-follows (st .0) header body (enough k refl) k _ (begin-data {d = Decrypt} in-aad header body mac n st)
+      open-follows in-data header body mac n st (Ok k) enough =
+          opened-follows (st .0) header body (enough k refl) k _ (begin-data {d = Decrypt} in-data header body mac n st)
 
 -- a start
 start-follows : (v : SparkleVariant) (r : Reader) (mac : Mac) (n : ℕ)
@@ -504,65 +504,65 @@ unfolding dataCheck
 message-step v Uninitialized loaded key nonce initial header body mac n f st input held a =
     record { mac = mac; count = n; same-engine = refl; fits = f; standing = st }
 message-step v (Init d) loaded key nonce initial header body mac n f st input held a =
-    data-follows v loaded key nonce initial f {d = d} takes-init header body mac n st input
+    data-follows v loaded key nonce initial f {d = d} in-init header body mac n st input
     (dataCheck (paramsOf v) (Init d) held (length input) a)
 message-step v (Aad d) loaded key nonce initial header body mac n f st input held a =
-    data-follows v loaded key nonce initial f {d = d} takes-aad header body mac n st input
+    data-follows v loaded key nonce initial f {d = d} in-aad header body mac n st input
     (dataCheck (paramsOf v) (Aad d) held (length input) a)
 message-step v (Data d) loaded key nonce initial header body mac n f st input held a =
-    data-follows v loaded key nonce initial f {d = d} takes-data header body mac n st input
+    data-follows v loaded key nonce initial f {d = d} in-data header body mac n st input
     (dataCheck (paramsOf v) (Data d) held (length input) a)
 message-step v (Final d) loaded key nonce initial header body mac n f st input held a =
     record { mac = mac; count = n; same-engine = refl; fits = f; standing = st }
 
-pub takes-enough : (p : Params) → Sizes p → {phase : Phase} → Takes Decrypt phase
+pub active-enough : (p : Params) → Sizes p → {phase : Phase} → Active Decrypt phase
     → (key nonce header body : List ℕ) (a k : ℕ)
-    → endCheck p phase (heldNow p key nonce header body phase) a ≡ Ok k → p .key ≤ length body
-takes-enough p h takes-init key nonce header body a k e =
-    absurd (omega (arith, end-enough p (Init Decrypt) (heldNow p key nonce header body (Init Decrypt)) a k refl e))
-takes-enough p h takes-aad key nonce header body a k e =
-    absurd (omega (arith, end-enough p (Aad Decrypt) (heldNow p key nonce header body (Aad Decrypt)) a k refl e))
-takes-enough p h takes-data key nonce header body a k e =
-    omega (arith, end-enough p (Data Decrypt) (heldNow p key nonce header body (Data Decrypt)) a k refl e)
+    → endCheck p phase (pointHeld p key nonce header body phase) a ≡ Ok k → p .key ≤ length body
+active-enough p h in-init key nonce header body a k e =
+    absurd (omega (arith, end-enough p (Init Decrypt) (pointHeld p key nonce header body (Init Decrypt)) a k refl e))
+active-enough p h in-aad key nonce header body a k e =
+    absurd (omega (arith, end-enough p (Aad Decrypt) (pointHeld p key nonce header body (Aad Decrypt)) a k refl e))
+active-enough p h in-data key nonce header body a k e =
+    omega (arith, end-enough p (Data Decrypt) (pointHeld p key nonce header body (Data Decrypt)) a k refl e)
 
 end-step : (v : SparkleVariant) (phase : Phase) (loaded : Bool) (key nonce initial header body : List ℕ) (mac : Mac) (n : ℕ)
     → (loaded ≡ true → Fits (paramsOf v) key nonce) → Standing (paramsOf v) phase loaded key nonce initial header body mac n
     → (a : ℕ)
     → Follows v
-    (finalBy (endCheck (paramsOf v) phase (heldNow (paramsOf v) key nonce header body phase) a)
+    (finalBy (endCheck (paramsOf v) phase (pointHeld (paramsOf v) key nonce header body phase) a)
     (engineOf v (kept loaded key nonce initial phase header body) mac n) .engine)
-    (readEnd (endCheck (paramsOf v) phase (heldNow (paramsOf v) key nonce header body phase) a) (paramsOf v)
+    (readEnd (endCheck (paramsOf v) phase (pointHeld (paramsOf v) key nonce header body phase) a) (paramsOf v)
     (kept loaded key nonce initial phase header body) .reader)
 end-step v Uninitialized loaded key nonce initial header body mac n f st a =
     unfold endCheck in record { mac = mac; count = n; same-engine = refl; fits = f; standing = st }
 end-step v (Init Encrypt) loaded key nonce initial header body mac n f st a =
-    seal-follows v loaded key nonce initial f takes-init header body mac n st
-    (endCheck (paramsOf v) (Init Encrypt) (heldNow (paramsOf v) key nonce header body (Init Encrypt)) a)
+    seal-follows v loaded key nonce initial f in-init header body mac n st
+    (endCheck (paramsOf v) (Init Encrypt) (pointHeld (paramsOf v) key nonce header body (Init Encrypt)) a)
 end-step v (Aad Encrypt) loaded key nonce initial header body mac n f st a =
-    seal-follows v loaded key nonce initial f takes-aad header body mac n st
-    (endCheck (paramsOf v) (Aad Encrypt) (heldNow (paramsOf v) key nonce header body (Aad Encrypt)) a)
+    seal-follows v loaded key nonce initial f in-aad header body mac n st
+    (endCheck (paramsOf v) (Aad Encrypt) (pointHeld (paramsOf v) key nonce header body (Aad Encrypt)) a)
 end-step v (Data Encrypt) loaded key nonce initial header body mac n f st a =
-    seal-follows v loaded key nonce initial f takes-data header body mac n st
-    (endCheck (paramsOf v) (Data Encrypt) (heldNow (paramsOf v) key nonce header body (Data Encrypt)) a)
+    seal-follows v loaded key nonce initial f in-data header body mac n st
+    (endCheck (paramsOf v) (Data Encrypt) (pointHeld (paramsOf v) key nonce header body (Data Encrypt)) a)
 end-step v (Init Decrypt) loaded key nonce initial header body mac n f st a =
-    open-follows v loaded key nonce initial f takes-init header body mac n st
-    (endCheck (paramsOf v) (Init Decrypt) (heldNow (paramsOf v) key nonce header body (Init Decrypt)) a)
-    (takes-enough (paramsOf v) (sizes v) takes-init key nonce header body a)
+    open-follows v loaded key nonce initial f in-init header body mac n st
+    (endCheck (paramsOf v) (Init Decrypt) (pointHeld (paramsOf v) key nonce header body (Init Decrypt)) a)
+    (active-enough (paramsOf v) (sizes v) in-init key nonce header body a)
 end-step v (Aad Decrypt) loaded key nonce initial header body mac n f st a =
-    open-follows v loaded key nonce initial f takes-aad header body mac n st
-    (endCheck (paramsOf v) (Aad Decrypt) (heldNow (paramsOf v) key nonce header body (Aad Decrypt)) a)
-    (takes-enough (paramsOf v) (sizes v) takes-aad key nonce header body a)
+    open-follows v loaded key nonce initial f in-aad header body mac n st
+    (endCheck (paramsOf v) (Aad Decrypt) (pointHeld (paramsOf v) key nonce header body (Aad Decrypt)) a)
+    (active-enough (paramsOf v) (sizes v) in-aad key nonce header body a)
 end-step v (Data Decrypt) loaded key nonce initial header body mac n f st a =
-    open-follows v loaded key nonce initial f takes-data header body mac n st
-    (endCheck (paramsOf v) (Data Decrypt) (heldNow (paramsOf v) key nonce header body (Data Decrypt)) a)
-    (takes-enough (paramsOf v) (sizes v) takes-data key nonce header body a)
+    open-follows v loaded key nonce initial f in-data header body mac n st
+    (endCheck (paramsOf v) (Data Decrypt) (pointHeld (paramsOf v) key nonce header body (Data Decrypt)) a)
+    (active-enough (paramsOf v) (sizes v) in-data key nonce header body a)
 end-step v (Final d) loaded key nonce initial header body mac n f st a =
     unfold endCheck in record { mac = mac; count = n; same-engine = refl; fits = f; standing = st }
 
 -- the engine's checks are the reader's
 module _ (v : SparkleVariant) (r : Reader) (mac : Mac) (n : ℕ) where
   pub data-answer : (k a : ℕ) → dataAnswer (engineOf v r mac n) k a
-      ≡ dataCheck (paramsOf v) (r .phase) (heldOf (paramsOf v) r) k a
+      ≡ dataCheck (paramsOf v) (r .phase) (readerHeld (paramsOf v) r) k a
   data-answer k a =
       let p = paramsOf v in
       let at = pointIn p (r .phase) (r .key) (r .nonce) (r .header) (r .body) in
@@ -571,7 +571,7 @@ module _ (v : SparkleVariant) (r : Reader) (mac : Mac) (n : ℕ) where
       ∙ data-agrees p (r .key) (r .nonce) (r .header) (r .body) (r .phase) k a
 
   pub final-answer : (a : ℕ) → finalAnswer (engineOf v r mac n) a
-      ≡ endCheck (paramsOf v) (r .phase) (heldOf (paramsOf v) r) a
+      ≡ endCheck (paramsOf v) (r .phase) (readerHeld (paramsOf v) r) a
   final-answer a =
       let p = paramsOf v in
       let at = pointIn p (r .phase) (r .key) (r .nonce) (r .header) (r .body) in
@@ -580,7 +580,7 @@ module _ (v : SparkleVariant) (r : Reader) (mac : Mac) (n : ℕ) where
       ∙ end-agrees p (r .key) (r .nonce) (r .header) (r .body) (r .phase) a
 
   pub update-answer : (k : ℕ) → updateOutputLen (engineOf v r mac n) k
-      ≡ updateLen (paramsOf v) (r .phase) (heldOf (paramsOf v) r) k
+      ≡ updateLen (paramsOf v) (r .phase) (readerHeld (paramsOf v) r) k
   unfolding updateOutputLen
   update-answer k =
       let p = paramsOf v in
@@ -589,7 +589,7 @@ module _ (v : SparkleVariant) (r : Reader) (mac : Mac) (n : ℕ) where
       (r .phase))
       ∙ update-agrees p (r .key) (r .nonce) (r .header) (r .body) (r .phase) k
 
-  pub total-answer : (k : ℕ) → outputLen (engineOf v r mac n) k ≡ totalLen (paramsOf v) (r .phase) (heldOf (paramsOf v) r) k
+  pub total-answer : (k : ℕ) → outputLen (engineOf v r mac n) k ≡ totalLen (paramsOf v) (r .phase) (readerHeld (paramsOf v) r) k
   unfolding outputLen
   total-answer k =
       let p = paramsOf v in
@@ -611,7 +611,7 @@ module _ (v : SparkleVariant) (r : Reader) (mac : Mac) (n : ℕ) (f : r .loaded 
 
   start-step : (d : Direction) (key nonce : List ℕ) (size : ℕ) (h : List ℕ)
       → Follows v (init (engineOf v r mac n) d key nonce size h .engine)
-      (read (paramsOf v) r (Call.start d key nonce size h) .reader)
+      (read (paramsOf v) r (Call.Init d key nonce size h) .reader)
   unfolding init read
   start-step d key nonce size h =
       let p = paramsOf v in
@@ -635,7 +635,7 @@ module _ (v : SparkleVariant) (r : Reader) (mac : Mac) (n : ℕ) (f : r .loaded 
       (header-follows v (r .loaded) (r .key) (r .nonce) (r .initial) f (r .phase) (r .header) (r .body) mac n st x input))
 
   header-step : (input : List ℕ)
-      → Follows v (processAadBytes (engineOf v r mac n) input .engine) (read (paramsOf v) r (Call.header input) .reader)
+      → Follows v (processAadBytes (engineOf v r mac n) input .engine) (read (paramsOf v) r (Call.Aad input) .reader)
   unfolding processAadBytes read aadCheck
   header-step [] =
       subst (λ (l : List ℕ). Follows v (engineOf v r mac n) (inPhase r (r .phase) l (r .body)))
@@ -644,24 +644,24 @@ module _ (v : SparkleVariant) (r : Reader) (mac : Mac) (n : ℕ) (f : r .loaded 
 
   call-step : (c : Call) → Follows v (step (engineOf v r mac n) c .engine) (read (paramsOf v) r c .reader)
   unfolding step processBytes doFinal
-  call-step (Call.start d key nonce size h) = start-step d key nonce size h
-  call-step (Call.header input) = header-step input
-  call-step (Call.message input out) = unfold read in
+  call-step (Call.Init d key nonce size h) = start-step d key nonce size h
+  call-step (Call.Aad input) = header-step input
+  call-step (Call.Data input out) = unfold read in
       subst (λ (k : AeadResult). Follows v (dataBy k (engineOf v r mac n) input .engine)
-      (read (paramsOf v) r (Call.message input out) .reader))
+      (read (paramsOf v) r (Call.Data input out) .reader))
       (sym (data-answer v r mac n (length input) (length out)))
       (message-step v (r .phase) (r .loaded) (r .key) (r .nonce) (r .initial) (r .header) (r .body) mac n f st input
-      (heldOf (paramsOf v) r) (length out))
-  call-step (Call.end out) = unfold read in
+      (readerHeld (paramsOf v) r) (length out))
+  call-step (Call.Final out) = unfold read in
       subst (λ (k : AeadResult). Follows v (finalBy k (engineOf v r mac n) .engine)
-      (read (paramsOf v) r (Call.end out) .reader))
+      (read (paramsOf v) r (Call.Final out) .reader))
       (sym (final-answer v r mac n (length out)))
       (end-step v (r .phase) (r .loaded) (r .key) (r .nonce) (r .initial) (r .header) (r .body) mac n f st (length out))
-  call-step Call.reset =
+  call-step Call.Reset =
       unfold read in reset-follows v (r .loaded) (r .key) (r .nonce) (r .initial) f (r .phase) (r .header) (r .body) mac n st
-  call-step Call.tag = unfold read in unchanged
-  call-step (Call.update k) = unfold read in unchanged
-  call-step (Call.output k) = unfold read in unchanged
+  call-step Call.Mac = unfold read in unchanged
+  call-step (Call.Update k) = unfold read in unchanged
+  call-step (Call.Output k) = unfold read in unchanged
 
 -- ---- Every call, refused or not, and every list of calls
 

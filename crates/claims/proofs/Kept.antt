@@ -27,18 +27,18 @@ use Rattle.tc_aead_cipher.specs.declared.aead_init_error.AeadInitError.{AeadIni
 use Rattle.tc_aead_cipher.specs.declared.aead_init_error.AeadInitError.the-variants.{InvalidKeyLength, InvalidNonceLength}
 use Rattle.tc_aead_cipher.specs.declared.aead_init_error.AeadInitResult.{AeadInitResult}
 use Rattle.tc_aead_cipher.specs.declared.aead_init_error.AeadInitResult.the-variants.{Ok as StartOk, Err as StartErr}
-use Rattle.tc_sparkle_aead.specs.declared.engine.Point.{Point}
+use Rattle.tc_sparkle_aead.specs.declared.message.Point.{Point}
 use Rattle.tc_sparkle_aead.specs.declared.engine.Pair.{Pair}
 use Rattle.tc_sparkle_aead.specs.declared.engine.Mac.{Mac}
 use Rattle.tc_sparkle_aead.specs.declared.engine.SparkleEngine.{SparkleEngine}
 use Rattle.tc_aead_cipher.specs.Variant.{paramsOf}
-use Rattle.tc_aead_cipher.specs.Checks.{opening, keep, heldIn, dataCheck, endCheck, startCheck, updateLen, totalLen, phaseCheck, then, room, whole}
+use Rattle.tc_aead_cipher.specs.Checks.{opening, keep, heldData, dataCheck, endCheck, startCheck, updateLen, totalLen, phaseCheck, then, room, whole}
 use Rattle.tc_sparkle_aead.specs.Engine.{zeros, inArray, noMessage, noMac, noPair, repeats, remember, currentKey, noSteps, newEngine}
-use Rattle.tc_sparkle_aead.specs.Calls.{stateIn, putState, heldBytes, stream, blocks, streamed, startPoint, headed, headedSteps, plainOf, finalPoint, readable}
+use Rattle.tc_sparkle_aead.specs.Calls.{stateIn, putState, buffered, stream, blockCount, streamed, startPoint, absorbHeader, headerSteps, plainOf, finalPoint, readable}
 use Rattle.tc_aead_cipher.proofs.VariantLaws.{Small}
 use Rattle.claims.specs.Reader.{Reader, newReader, headerPhase}
-use Rattle.claims.proofs.Points.{take-inArray, ready-zero, held-nil, blockPoint, blockPoint-nil, heldBytes-aad}
-use Rattle.claims.proofs.Points.{heldBytes-data, state-point, blocks-point, put-point, streamed-point, given-point}
+use Rattle.claims.proofs.Points.{take-inArray, ready-zero, held-nil, blockPoint, blockPoint-nil, buffered-aad}
+use Rattle.claims.proofs.Points.{buffered-data, state-point, blockCount-point, put-point, streamed-point, given-point}
 
 -- ---- What the engine is, from what the reader keeps
 
@@ -168,33 +168,33 @@ module _ (p : Params) (h : Sizes p) (m : Small p) where
     unfolding startPoint headPoint
     start-head d = sym (blockPoint-nil p 0 (absorbBlock p) (Init d) (initialise p key nonce))
 
-    pub holds-init : (d : Direction) → heldBytes p (headPoint p (Init d) key nonce []) ≡ held (p .rate) 0 []
-    unfolding heldBytes headPoint blockPoint
+    pub holds-init : (d : Direction) → buffered p (headPoint p (Init d) key nonce []) ≡ held (p .rate) 0 []
+    unfolding buffered headPoint blockPoint
     holds-init d = sym (held-nil (p .rate) 0)
 
-    pub holds-aad : (d : Direction) (header : List ℕ) → heldBytes p (headPoint p (Aad d) key nonce header)
+    pub holds-aad : (d : Direction) (header : List ℕ) → buffered p (headPoint p (Aad d) key nonce header)
         ≡ held (p .rate) 0 header
     unfolding headPoint
-    holds-aad d header = heldBytes-aad p h m (absorbBlock p) d (initialise p key nonce) header
+    holds-aad d header = buffered-aad p h m (absorbBlock p) d (initialise p key nonce) header
 
     -- more header, where it is not empty
     module _ (phase : Phase) (header : List ℕ)
-        (holds : heldBytes p (headPoint p phase key nonce header) ≡ held (p .rate) 0 header)
+        (holds : buffered p (headPoint p phase key nonce header) ≡ held (p .rate) 0 header)
         (d : Direction) (x : ℕ) (input : List ℕ) where
-      pub head-point : headed p d (headPoint p phase key nonce header) (x ∷ input)
+      pub head-point : absorbHeader p d (headPoint p phase key nonce header) (x ∷ input)
           ≡ headPoint p (Aad d) key nonce (header ++ (x ∷ input))
-      unfolding headed headPoint
+      unfolding absorbHeader headPoint
       head-point =
           streamed-point p h m 0 (absorbBlock p) absorbed phase (initialise p key nonce) header begun holds (x ∷ input)
           (Aad d)
 
       pub head-count :
-          (headCount p (length header) + headedSteps p (headPoint p phase key nonce header) (x ∷ input)) % 2 ^ 64
+          (headCount p (length header) + headerSteps p (headPoint p phase key nonce header) (x ∷ input)) % 2 ^ 64
           ≡ headCount p (length (header ++ (x ∷ input)))
-      unfolding headedSteps headPoint headCount leading
+      unfolding headerSteps headPoint headCount leading
       head-count =
           rw (
-            blocks-point p h m 0 (absorbBlock p) absorbed phase (initialise p key nonce) header begun holds (x ∷ input),
+            blockCount-point p h m 0 (absorbBlock p) absorbed phase (initialise p key nonce) header begun holds (x ∷ input),
             ready-cut (p .rate) 0 (h .rate-positive) header (x ∷ input),
           )
           (counted (p .big) (ready (p .rate) 0 (length header))
@@ -202,15 +202,15 @@ module _ (p : Params) (h : Sizes p) (m : Small p) where
 
     -- the header of a start
     pub started-point : (d : Direction) (header : List ℕ)
-        → headed p d (startPoint p d key nonce) header ≡ headPoint p (headerPhase d header) key nonce header
-    unfolding headed
+        → absorbHeader p d (startPoint p d key nonce) header ≡ headPoint p (headerPhase d header) key nonce header
+    unfolding absorbHeader
     started-point d [] = start-head d
     started-point d (x ∷ header) =
-        ap (λ (at : Point). headed p d at (x ∷ header)) (start-head d) ∙ head-point (Init d) [] (holds-init d) d x header
+        ap (λ (at : Point). absorbHeader p d at (x ∷ header)) (start-head d) ∙ head-point (Init d) [] (holds-init d) d x header
 
     pub started-count : (d : Direction) (header : List ℕ)
-        → (p .big + headedSteps p (startPoint p d key nonce) header) % 2 ^ 64 ≡ headCount p (length header)
-    unfolding headedSteps blocks stream heldBytes startPoint headCount leading
+        → (p .big + headerSteps p (startPoint p d key nonce) header) % 2 ^ 64 ≡ headCount p (length header)
+    unfolding headerSteps blockCount stream buffered startPoint headCount leading
     started-count d header = refl
 
     -- the header ends
@@ -227,7 +227,7 @@ module _ (p : Params) (h : Sizes p) (m : Small p) where
     begin-words : (d : Direction) (header : List ℕ) → 0 < length header
         → putState p (headPoint p (Aad d) key nonce header .words)
         (mixLast p 0 (stateIn p (headPoint p (Aad d) key nonce header .words))
-        (heldBytes p (headPoint p (Aad d) key nonce header)))
+        (buffered p (headPoint p (Aad d) key nonce header)))
         ≡ inArray 16 (prepared p key nonce header)
     unfolding headPoint prepared absorb ifEmpty leading held
     begin-words d [] some = absurd (omega arith)
@@ -246,7 +246,7 @@ module _ (p : Params) (h : Sizes p) (m : Small p) where
           words =
               putState p (headPoint p (Aad d) key nonce header .words)
               (mixLast p 0 (stateIn p (headPoint p (Aad d) key nonce header .words))
-              (heldBytes p (headPoint p (Aad d) key nonce header)));
+              (buffered p (headPoint p (Aad d) key nonce header)));
           buffer = zeros 64;
           held = 0;
         })
@@ -281,9 +281,9 @@ module _ (p : Params) (h : Sizes p) (m : Small p) where
     taken s b hs = length-messageBlock p h (plainOf p (Data d)) s b
 
     module _ (body : List ℕ) where
-      pub holds-data : heldBytes p (dataPoint p d key nonce header body) ≡ held (p .rate) (keep p (Data d)) body
+      pub holds-data : buffered p (dataPoint p d key nonce header body) ≡ held (p .rate) (keep p (Data d)) body
       unfolding dataPoint
-      holds-data = heldBytes-data p h m (messageBlock p (plainOf p (Data d))) d (prepared p key nonce header) body
+      holds-data = buffered-data p h m (messageBlock p (plainOf p (Data d))) d (prepared p key nonce header) body
 
       pub state-data : stateIn p (dataPoint p d key nonce header body .words)
           ≡ after (p .rate) (messageBlock p (plainOf p (Data d))) (ready (p .rate) (keep p (Data d)) (length body))
@@ -309,7 +309,7 @@ module _ (p : Params) (h : Sizes p) (m : Small p) where
             → given (p .rate) (messageBlock p (plainOf p (Data d))) out (ready (p .rate) (keep p (Data d)) (length body))
             (prepared p key nonce header) body
             ++ given (p .rate) (messageBlock p (plainOf p (Data d))) out
-            (blocks p (keep p (Data d)) (dataPoint p d key nonce header body) input)
+            (blockCount p (keep p (Data d)) (dataPoint p d key nonce header body) input)
             (stateIn p (dataPoint p d key nonce header body .words)) (stream p (dataPoint p d key nonce header body) input)
             ≡ given (p .rate) (messageBlock p (plainOf p (Data d))) out
             (ready (p .rate) (keep p (Data d)) (length (body ++ input)))
@@ -321,13 +321,13 @@ module _ (p : Params) (h : Sizes p) (m : Small p) where
             prepared-state holds-data input
 
         pub data-count :
-            (dataCount p d header body + blocks p (keep p (Data d))
+            (dataCount p d header body + blockCount p (keep p (Data d))
             (dataPoint p d key nonce header body) input * p .slim) % 2 ^ 64
             ≡ dataCount p d header (body ++ input)
         unfolding dataPoint dataCount
         data-count =
             rw (
-              blocks-point p h m (keep p (Data d)) (messageBlock p (plainOf p (Data d))) taken (Data d)
+              blockCount-point p h m (keep p (Data d)) (messageBlock p (plainOf p (Data d))) taken (Data d)
                   (prepared p key nonce header) body
                   prepared-state holds-data input,
               ready-cut (p .rate) (keep p (Data d)) (h .rate-positive) body input,
@@ -358,11 +358,11 @@ module _ (p : Params) (key nonce header body : List ℕ) where
   unfolding dataPoint blockPoint
   held-agrees d = length-held (p .rate) (keep p (Data d)) body
 
-  abbrev pub heldNow : Phase → ℕ
-  heldNow phase = length body - ready (p .rate) (keep p phase) (length body) * p .rate
+  abbrev pub pointHeld : Phase → ℕ
+  pointHeld phase = length body - ready (p .rate) (keep p phase) (length body) * p .rate
 
   pub data-agrees : (phase : Phase) (n a : ℕ)
-      → dataCheck p phase (pointIn p phase key nonce header body .held) n a ≡ dataCheck p phase (heldNow phase) n a
+      → dataCheck p phase (pointIn p phase key nonce header body .held) n a ≡ dataCheck p phase (pointHeld phase) n a
   unfolding dataCheck updateLen
   data-agrees Uninitialized n a = refl
   data-agrees (Init d) n a = refl
@@ -371,7 +371,7 @@ module _ (p : Params) (key nonce header body : List ℕ) where
   data-agrees (Final d) n a = refl
 
   pub update-agrees : (phase : Phase) (n : ℕ)
-      → updateLen p phase (pointIn p phase key nonce header body .held) n ≡ updateLen p phase (heldNow phase) n
+      → updateLen p phase (pointIn p phase key nonce header body .held) n ≡ updateLen p phase (pointHeld phase) n
   unfolding updateLen
   update-agrees Uninitialized n = refl
   update-agrees (Init d) n = refl
@@ -380,7 +380,7 @@ module _ (p : Params) (key nonce header body : List ℕ) where
   update-agrees (Final d) n = refl
 
   pub total-agrees : (phase : Phase) (n : ℕ)
-      → totalLen p phase (pointIn p phase key nonce header body .held) n ≡ totalLen p phase (heldNow phase) n
+      → totalLen p phase (pointIn p phase key nonce header body .held) n ≡ totalLen p phase (pointHeld phase) n
   unfolding totalLen
   total-agrees Uninitialized n = refl
   total-agrees (Init d) n = refl
@@ -389,7 +389,7 @@ module _ (p : Params) (key nonce header body : List ℕ) where
   total-agrees (Final d) n = refl
 
   pub end-agrees : (phase : Phase) (a : ℕ)
-      → endCheck p phase (pointIn p phase key nonce header body .held) a ≡ endCheck p phase (heldNow phase) a
+      → endCheck p phase (pointIn p phase key nonce header body .held) a ≡ endCheck p phase (pointHeld phase) a
   unfolding endCheck totalLen
   end-agrees Uninitialized a = refl
   end-agrees (Init d) a = refl
@@ -418,12 +418,12 @@ whole-good p held n k false t e = ltb-false held (p .key) t
 
 -- an opening that passes an end's checks holds a tag's bytes
 pub end-enough : (p : Params) (phase : Phase) (held a k : ℕ) → opening phase ≡ true → endCheck p phase held a ≡ Ok k
-    → p .key ≤ heldIn p phase held
+    → p .key ≤ heldData p phase held
 unfolding endCheck
 end-enough p phase held a k o e =
     let s1 = then-good (phaseCheck phase) (λ _. then (then (totalLen p phase held 0) (room a)) (whole p phase held)) k e in
     let s2 = then-good (then (totalLen p phase held 0) (room a)) (whole p phase held) k (s1 .2) in
-    let h = heldIn p phase held in
+    let h = heldData p phase held in
     let n = s2 .0 in
     whole-good p h n k (ltb h (p .key)) refl
     (ap (λ (b : Bool). cond b (cond (ltb h (p .key)) (Err (CiphertextTooShort (p .key) h)) (Ok n)) (Ok n)) (sym o) ∙ s2 .2)

@@ -17,13 +17,13 @@ use Rattle.tc_aead_cipher.specs.declared.aead_error.AeadResult.{AeadResult}
 use Rattle.tc_aead_cipher.specs.declared.aead_error.AeadResult.the-variants.{Ok, Err}
 use Rattle.tc_sparkle_aead.specs.declared.engine.SparkleEngine.{SparkleEngine}
 use Rattle.tc_aead_cipher.specs.Variant.{paramsOf}
-use Rattle.tc_aead_cipher.specs.Checks.{opening, heldIn, updateLen, totalLen, aadCheck, headerCheck, dataCheck, endCheck, startCheck}
+use Rattle.tc_aead_cipher.specs.Checks.{opening, heldData, updateLen, totalLen, aadCheck, headerCheck, dataCheck, endCheck, startCheck}
 use Rattle.tc_sparkle_aead.specs.Engine.{newEngine}
 use Rattle.tc_aead_cipher.specs.Call.{Call}
 use Rattle.claims.specs.Shape.{shape}
 use Rattle.tc_aead_cipher.specs.Outcome.{outcome, startOutcome}
 use Rattle.tc_sparkle_aead.specs.Sheet.{step, Line, line, lines, sheet}
-use Rattle.claims.specs.Reader.{verdictOf, Reader, newReader, repeated, heldOf, readStart, readEnd, endIn, read}
+use Rattle.claims.specs.Reader.{verdictOf, Reader, newReader, repeated, readerHeld, readStart, readEnd, endIn, read}
 use Rattle.claims.specs.Reader.{readFrom, reader}
 use Rattle.claims.specs.Messages.{openOutcome, endOutcome, answerOf}
 use Rattle.claims.specs.Machine.{engine, after, linesOf, Demand3}
@@ -31,17 +31,17 @@ use Rattle.claims.proofs.PublicState.{publicOf, yes, headerShows, shows
 use Rattle.claims.proofs.Demand3.{Linked, asked-is-read, readStart-note, endCheck-held, sheets-and-verdicts}
 
 -- The checks depend on the held bytes through h.
-updateLen-held : (p : Params) (phase : Phase) (a b n : ℕ) → heldIn p phase a ≡ heldIn p phase b
+updateLen-held : (p : Params) (phase : Phase) (a b n : ℕ) → heldData p phase a ≡ heldData p phase b
     → updateLen p phase a n ≡ updateLen p phase b n
 unfolding updateLen
 updateLen-held p phase a b n h = rw h
 
-totalLen-held : (p : Params) (phase : Phase) (a b n : ℕ) → heldIn p phase a ≡ heldIn p phase b
+totalLen-held : (p : Params) (phase : Phase) (a b n : ℕ) → heldData p phase a ≡ heldData p phase b
     → totalLen p phase a n ≡ totalLen p phase b n
 unfolding totalLen
 totalLen-held p phase a b n h = rw h
 
-dataCheck-held : (p : Params) (phase : Phase) (a b n available : ℕ) → heldIn p phase a ≡ heldIn p phase b
+dataCheck-held : (p : Params) (phase : Phase) (a b n available : ℕ) → heldData p phase a ≡ heldData p phase b
     → dataCheck p phase a n available ≡ dataCheck p phase b n available
 unfolding dataCheck
 dataCheck-held p phase a b n available h = simp (updateLen-held p phase a b n h)
@@ -64,7 +64,7 @@ open-shown true n = refl
 open-shown false n = refl
 
 end-phase : (p : Params) (r : Reader) (phase : Phase) (n available : ℕ)
-    → endCheck p phase (heldOf p r) available ≡ Ok n
+    → endCheck p phase (readerHeld p r) available ≡ Ok n
     → endOutcome (Ok n) (opening phase) (yes (endIn phase p r .verdict))
     ≡ endOutcome (Ok n) (opening phase) (verified p (r .key) (r .nonce) (r .header) (r .body))
 unfolding endCheck
@@ -78,7 +78,7 @@ end-phase p r (Data Decrypt) n available c = open-shown (verified p (r .key) (r 
 end-phase p r (Final d) n available c = absurd (let z : _≡_ {A = ℕ} 0 1 = cc in omega arith)
 
 end-shown : (p : Params) (r : Reader) (k : AeadResult) (available : ℕ)
-    → endCheck p (r .phase) (heldOf p r) available ≡ k
+    → endCheck p (r .phase) (readerHeld p r) available ≡ k
     → endOutcome k (opening (r .phase)) (yes (readEnd k p r .verdict))
     ≡ endOutcome k (opening (r .phase)) (verified p (r .key) (r .nonce) (r .header) (r .body))
 end-shown p r (Err x) available c = refl
@@ -86,7 +86,7 @@ end-shown p r (Ok n) available c = end-phase p r (r .phase) n available c
 
 -- What the public state shows at the reader's verdict is what the tables say.
 module _ (v w : SparkleVariant) (r : Reader) (phase : Phase) (k : ℕ) (variant : w ≡ v) (same-phase : phase ≡ r .phase)
-    (held : heldIn (paramsOf v) (r .phase) k ≡ heldIn (paramsOf v) (r .phase) (heldOf (paramsOf v) r)) where
+    (held : heldData (paramsOf v) (r .phase) k ≡ heldData (paramsOf v) (r .phase) (readerHeld (paramsOf v) r)) where
   start-expected : (d : Direction) (key nonce header : List ℕ) (size : ℕ)
       → startOutcome (startCheck (paramsOf w) d (length key) (length nonce) size
       (yes (readStart (startCheck (paramsOf v) d (length key) (length nonce) size (repeated r key nonce)) r d key nonce header .verdict)))
@@ -99,55 +99,55 @@ module _ (v w : SparkleVariant) (r : Reader) (phase : Phase) (k : ℕ) (variant 
 
   data-expected : (n available : ℕ)
       → outcome (dataCheck (paramsOf w) phase k n available)
-      ≡ outcome (dataCheck (paramsOf v) (r .phase) (heldOf (paramsOf v) r) n available)
+      ≡ outcome (dataCheck (paramsOf v) (r .phase) (readerHeld (paramsOf v) r) n available)
   data-expected n available =
-      rw (variant, same-phase, dataCheck-held (paramsOf v) (r .phase) k (heldOf (paramsOf v) r) n available held)
+      rw (variant, same-phase, dataCheck-held (paramsOf v) (r .phase) k (readerHeld (paramsOf v) r) n available held)
 
   end-expected : (available : ℕ)
       → endOutcome (endCheck (paramsOf w) phase k available) (opening phase)
-      (yes (readEnd (endCheck (paramsOf v) (r .phase) (heldOf (paramsOf v) r) available) (paramsOf v) r .verdict))
-      ≡ endOutcome (endCheck (paramsOf v) (r .phase) (heldOf (paramsOf v) r) available) (opening (r .phase))
+      (yes (readEnd (endCheck (paramsOf v) (r .phase) (readerHeld (paramsOf v) r) available) (paramsOf v) r .verdict))
+      ≡ endOutcome (endCheck (paramsOf v) (r .phase) (readerHeld (paramsOf v) r) available) (opening (r .phase))
       (verified (paramsOf v) (r .key) (r .nonce) (r .header) (r .body))
   end-expected available =
-      rw (variant, same-phase, endCheck-held (paramsOf v) (r .phase) k (heldOf (paramsOf v) r) available held)
-      (end-shown (paramsOf v) r (endCheck (paramsOf v) (r .phase) (heldOf (paramsOf v) r) available) available refl)
+      rw (variant, same-phase, endCheck-held (paramsOf v) (r .phase) k (readerHeld (paramsOf v) r) available held)
+      (end-shown (paramsOf v) r (endCheck (paramsOf v) (r .phase) (readerHeld (paramsOf v) r) available) available refl)
 
   update-expected : (n : ℕ)
-      → outcome (updateLen (paramsOf w) phase k n) ≡ outcome (updateLen (paramsOf v) (r .phase) (heldOf (paramsOf v) r) n)
+      → outcome (updateLen (paramsOf w) phase k n) ≡ outcome (updateLen (paramsOf v) (r .phase) (readerHeld (paramsOf v) r) n)
   update-expected n =
-      rw (variant, same-phase, updateLen-held (paramsOf v) (r .phase) k (heldOf (paramsOf v) r) n held)
+      rw (variant, same-phase, updateLen-held (paramsOf v) (r .phase) k (readerHeld (paramsOf v) r) n held)
 
   output-expected : (n : ℕ)
-      → outcome (totalLen (paramsOf w) phase k n) ≡ outcome (totalLen (paramsOf v) (r .phase) (heldOf (paramsOf v) r) n)
+      → outcome (totalLen (paramsOf w) phase k n) ≡ outcome (totalLen (paramsOf v) (r .phase) (readerHeld (paramsOf v) r) n)
   output-expected n =
-      rw (variant, same-phase, totalLen-held (paramsOf v) (r .phase) k (heldOf (paramsOf v) r) n held)
+      rw (variant, same-phase, totalLen-held (paramsOf v) (r .phase) k (readerHeld (paramsOf v) r) n held)
 
 module _ (v : SparkleVariant) (e : SparkleEngine) (r : Reader) (l : Linked v e r) where
   shown : (c : Call) → step e c .outcome ≡ shows (publicOf e) (shape c) (read (paramsOf v) r c .verdict)
   shown c = shows-is e c ∙ ap (shows (publicOf e) (shape c)) (asked-is-read v e r l c)
 
   -- A call that is no mac call is answered as the tables say.
-  pub answered : (c : Call) → (c ≡ Call.tag → ⊥) → step e c .outcome ≡ answerOf (paramsOf v) r c
+  pub answered : (c : Call) → (c ≡ Call.Mac → ⊥) → step e c .outcome ≡ answerOf (paramsOf v) r c
   unfolding answerOf read
-  answered (Call.start d key nonce size header) other =
-      shown (Call.start d key nonce size header)
+  answered (Call.Init d key nonce size header) other =
+      shown (Call.Init d key nonce size header)
       ∙ start-expected v (e .variant) r (e .current .phase) (e .current .held) (l .variant) (l .phase) (l .held) d key nonce header size
-  answered (Call.header input) other =
-      shown (Call.header input) ∙ header-expected (e .current .phase) (length input)
+  answered (Call.Aad input) other =
+      shown (Call.Aad input) ∙ header-expected (e .current .phase) (length input)
       ∙ ap (λ (phase : Phase). outcome (aadCheck phase (length input))) (l .phase)
-  answered (Call.message input out) other =
-      shown (Call.message input out)
+  answered (Call.Data input out) other =
+      shown (Call.Data input out)
       ∙ data-expected v (e .variant) r (e .current .phase) (e .current .held) (l .variant) (l .phase) (l .held) (length input) (length out)
-  answered (Call.end out) other =
-      shown (Call.end out)
+  answered (Call.Final out) other =
+      shown (Call.Final out)
       ∙ end-expected v (e .variant) r (e .current .phase) (e .current .held) (l .variant) (l .phase) (l .held) (length out)
-  answered Call.reset other = shown Call.reset
-  answered Call.tag other = absurd (other refl)
-  answered (Call.update n) other =
-      shown (Call.update n)
+  answered Call.Reset other = shown Call.Reset
+  answered Call.Mac other = absurd (other refl)
+  answered (Call.Update n) other =
+      shown (Call.Update n)
       ∙ update-expected v (e .variant) r (e .current .phase) (e .current .held) (l .variant) (l .phase) (l .held) n
-  answered (Call.output n) other =
-      shown (Call.output n)
+  answered (Call.Output n) other =
+      shown (Call.Output n)
       ∙ output-expected v (e .variant) r (e .current .phase) (e .current .held) (l .variant) (l .phase) (l .held) n
 
 pub engine-lines : (e : SparkleEngine) (xs : List Call) → linesOf engine e xs ≡ lines e xs
@@ -169,7 +169,7 @@ module _ (Follows : SparkleVariant → SparkleEngine → Reader → Type 0)
         follows-after v xs (step e x .engine) (read (paramsOf v) r x .reader) (keeps v e r x f)
 
     -- Demand 2, the answers.
-    pub engine-answers : (v : SparkleVariant) (before : List Call) (c : Call) → (c ≡ Call.tag → ⊥)
+    pub engine-answers : (v : SparkleVariant) (before : List Call) (c : Call) → (c ≡ Call.Mac → ⊥)
         → engine .step (after engine (engine .new v) before) c .line .outcome ≡ answerOf (paramsOf v) (reader v before) c
     unfolding reader line
     engine-answers v before c other =

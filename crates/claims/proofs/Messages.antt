@@ -23,27 +23,27 @@ use Rattle.tc_aead_cipher.specs.declared.aead_init_error.AeadInitResult.the-var
 use Rattle.tc_sparkle_aead.specs.declared.engine.Mac.{Mac}
 use Rattle.tc_sparkle_aead.specs.declared.engine.SparkleEngine.{SparkleEngine}
 use Rattle.tc_aead_cipher.specs.Variant.{paramsOf}
-use Rattle.tc_aead_cipher.specs.Checks.{opening, keep, heldIn, then, phaseCheck, updateLen, totalLen, room, whole, aadCheck, headerCheck, dataCheck, endCheck}
+use Rattle.tc_aead_cipher.specs.Checks.{opening, keep, heldData, then, phaseCheck, updateLen, totalLen, room, whole, aadCheck, headerCheck, dataCheck, endCheck}
 use Rattle.tc_sparkle_aead.specs.Engine.{noMac, updateOutputLen, outputLen}
 use Rattle.tc_sparkle_aead.specs.Calls.{aadBy, processAadBytes, readable, macOf, stepsNow}
 use Rattle.tc_aead_cipher.proofs.VariantLaws.{sizes, small, keep-bound}
-use Rattle.tc_sparkle_aead.proofs.FinalLaws.{heldIn-bound}
+use Rattle.tc_sparkle_aead.proofs.FinalLaws.{heldData-bound}
 use Rattle.tc_aead_cipher.proofs.CheckLaws.{updateLen-fits, totalLen-opening, totalLen-sealing, startCheck-opening, startCheck-sealing}
 use Rattle.tc_aead_cipher.specs.Call.{Call}
 use Rattle.tc_sparkle_aead.specs.Sheet.{step, runFrom, run}
 use Rattle.tc_aead_cipher.specs.Outcome.{Outcome, outcome, startOutcome}
-use Rattle.claims.specs.Reader.{Reader, heldOf, headerPhase, repeated, aadPhase, readHeader, readMessage, read}
+use Rattle.claims.specs.Reader.{Reader, readerHeld, headerPhase, repeated, aadPhase, readHeader, readMessage, read}
 use Rattle.claims.specs.Reader.{readFrom, reader}
-use Rattle.claims.specs.Messages.{messageOf, headerIn, dataOf, countOf, outputs, Between, AllBetween, Each, begunEngine}
-use Rattle.claims.specs.Messages.{headerBytes, dataBytes, HeaderCall, DataCall, messageCalls, RoomFor, Rooms, Ample, Taken}
+use Rattle.claims.specs.Messages.{messageOf, headerIn, dataOf, countOf, outputs, Between, AllBetween, Each, startedEngine}
+use Rattle.claims.specs.Messages.{headerBytes, dataBytes, HeaderCall, DataCall, messageCalls, RoomFor, Rooms, Ample, IsAccepted}
 use Rattle.claims.specs.Messages.{Accepts, Completes, Rejects, RoundTrip}
 use Rattle.claims.proofs.Packets.{length-body}
 use Rattle.claims.proofs.Kept.{Follows, Standing, engineOf}
-use Rattle.claims.proofs.Follows.{Takes, kept, follows-step, follows-from, follows-run, aad-some, header-answer}
+use Rattle.claims.proofs.Follows.{Active, kept, follows-step, follows-from, follows-run, aad-some, header-answer}
 use Rattle.claims.proofs.Follows.{update-answer, total-answer}
-use Rattle.claims.proofs.Accepted.{takes-opening}
+use Rattle.claims.proofs.Accepted.{active-opening}
 use Rattle.claims.proofs.Written.{outcome-ok, end-ended, message-outcome, seal-end, open-end}
-use Rattle.claims.proofs.Whole.{takes-message, Going, startedReader, start-outcome, lastReader, begun-follows}
+use Rattle.claims.proofs.Whole.{active-message, Going, startedReader, start-outcome, lastReader, start-follows}
 use Rattle.claims.proofs.Whole.{last-follows, last-going, sealed-taken, opened-taken}
 
 -- ---- Room and acceptance
@@ -60,24 +60,24 @@ accepts-append e [] ys a b = b
 accepts-append e (c ∷ xs) ys a b = (a .0, accepts-append (step e c .engine) xs ys (a .1) b)
 
 header-between : (e : SparkleEngine) (c : Call) → HeaderCall c → Between e c
-header-between e (Call.start d key nonce size h) b = b
-header-between e (Call.header input) b = b
-header-between e (Call.message input out) b = tt
-header-between e (Call.end out) b = absurd b
-header-between e Call.reset b = b
-header-between e Call.tag b = b
-header-between e (Call.update n) b = b
-header-between e (Call.output n) b = b
+header-between e (Call.Init d key nonce size h) b = b
+header-between e (Call.Aad input) b = b
+header-between e (Call.Data input out) b = tt
+header-between e (Call.Final out) b = absurd b
+header-between e Call.Reset b = b
+header-between e Call.Mac b = b
+header-between e (Call.Update n) b = b
+header-between e (Call.Output n) b = b
 
 data-between : (e : SparkleEngine) (c : Call) → DataCall c → Between e c
-data-between e (Call.start d key nonce size h) b = b
-data-between e (Call.header input) b = tt
-data-between e (Call.message input out) b = b
-data-between e (Call.end out) b = absurd b
-data-between e Call.reset b = b
-data-between e Call.tag b = b
-data-between e (Call.update n) b = b
-data-between e (Call.output n) b = b
+data-between e (Call.Init d key nonce size h) b = b
+data-between e (Call.Aad input) b = tt
+data-between e (Call.Data input out) b = b
+data-between e (Call.Final out) b = absurd b
+data-between e Call.Reset b = b
+data-between e Call.Mac b = b
+data-between e (Call.Update n) b = b
+data-between e (Call.Output n) b = b
 
 datas-between : (e : SparkleEngine) (ms : List Call) → Each DataCall ms → AllBetween e ms
 datas-between e [] b = tt
@@ -115,7 +115,7 @@ aad-answered (Err x) e input h = h
 
 header-taken : (v : SparkleVariant) (e : SparkleEngine) (r : Reader) → Follows v e r → {d : Direction} → Heading d (r .phase)
     → (input : List ℕ)
-    → step e (Call.header input) .outcome ≡ Outcome.ok 0
+    → step e (Call.Aad input) .outcome ≡ Outcome.ok 0
 unfolding step processAadBytes
 header-taken v e r w t input =
     let K = engineOf v r (w .mac) (w .count) in
@@ -132,12 +132,12 @@ record Headed (v : SparkleVariant) (d : Direction) (e : SparkleEngine) (r : Read
   body-is : readFrom (paramsOf v) r calls .body ≡ r .body
 
 -- one call more
-headed-more : (v : SparkleVariant) (d : Direction) (e : SparkleEngine) (r : Reader) (c : Call) (calls : List Call)
-    → Taken c (step e c .outcome) → read (paramsOf v) r c .reader .header ≡ r .header ++ headerIn c
+absorb-more : (v : SparkleVariant) (d : Direction) (e : SparkleEngine) (r : Reader) (c : Call) (calls : List Call)
+    → IsAccepted c (step e c .outcome) → read (paramsOf v) r c .reader .header ≡ r .header ++ headerIn c
     → read (paramsOf v) r c .reader .body ≡ r .body
     → Headed v d (step e c .engine) (read (paramsOf v) r c .reader) calls → Headed v d e r (c ∷ calls)
 unfolding readFrom
-headed-more v d e r c calls t h b q =
+absorb-more v d e r c calls t h b q =
     record {
       taken = (t, q .taken);
       heading = q .heading;
@@ -147,7 +147,7 @@ headed-more v d e r c calls t h b q =
     }
 
 header-read : (v : SparkleVariant) (r : Reader) {d : Direction} → Heading d (r .phase) → (input : List ℕ)
-    → read (paramsOf v) r (Call.header input) .reader
+    → read (paramsOf v) r (Call.Aad input) .reader
     ≡ kept (r .loaded) (r .key) (r .nonce) (r .initial) (aadPhase (r .phase) input) (r .header ++ input) (r .body)
 unfolding read
 header-read v r t input = ap (λ (k : AeadResult). readHeader k r input .reader) (aad-passes t input)
@@ -157,37 +157,37 @@ headers-taken : (v : SparkleVariant) (d : Direction) (e : SparkleEngine) (r : Re
 unfolding step read readFrom
 headers-taken v d e r w t [] b =
     record { taken = tt; heading = t; header-is = sym (append-nil (r .header)); body-is = refl }
-headers-taken v d e r w t (Call.start d' key nonce size h ∷ calls) b = absurd (b .0)
-headers-taken v d e r w t (Call.header input ∷ calls) b =
+headers-taken v d e r w t (Call.Init d' key nonce size h ∷ calls) b = absurd (b .0)
+headers-taken v d e r w t (Call.Aad input ∷ calls) b =
     let is = header-read v r t input in
-    let t' : Heading d (read (paramsOf v) r (Call.header input) .reader .phase) =
+    let t' : Heading d (read (paramsOf v) r (Call.Aad input) .reader .phase) =
     subst (λ (x : Reader). Heading d (x .phase)) (sym is) (heading-more t input) in
-    headed-more v d e r (Call.header input) calls (0, header-taken v e r w t input) (ap (λ (x : Reader). x .header) is)
+    absorb-more v d e r (Call.Aad input) calls (0, header-taken v e r w t input) (ap (λ (x : Reader). x .header) is)
     (ap (λ (x : Reader). x .body) is)
-    (headers-taken v d (step e (Call.header input) .engine) (read (paramsOf v) r (Call.header input) .reader)
-    (follows-step v e r w (Call.header input)) t' calls (b .1))
-headers-taken v d e r w t (Call.message input out ∷ calls) b = absurd (b .0)
-headers-taken v d e r w t (Call.end out ∷ calls) b = absurd (b .0)
-headers-taken v d e r w t (Call.reset ∷ calls) b = absurd (b .0)
-headers-taken v d e r w t (Call.tag ∷ calls) b =
-    headed-more v d e r Call.tag calls (countOf (step e Call.tag .outcome), refl) (sym (append-nil (r .header))) refl
+    (headers-taken v d (step e (Call.Aad input) .engine) (read (paramsOf v) r (Call.Aad input) .reader)
+    (follows-step v e r w (Call.Aad input)) t' calls (b .1))
+headers-taken v d e r w t (Call.Data input out ∷ calls) b = absurd (b .0)
+headers-taken v d e r w t (Call.Final out ∷ calls) b = absurd (b .0)
+headers-taken v d e r w t (Call.Reset ∷ calls) b = absurd (b .0)
+headers-taken v d e r w t (Call.Mac ∷ calls) b =
+    absorb-more v d e r Call.Mac calls (countOf (step e Call.Mac .outcome), refl) (sym (append-nil (r .header))) refl
     (headers-taken v d e r w t calls (b .1))
-headers-taken v d e r w t (Call.update n ∷ calls) b =
-    headed-more v d e r (Call.update n) calls tt (sym (append-nil (r .header))) refl (headers-taken v d e r w t calls (b .1))
-headers-taken v d e r w t (Call.output n ∷ calls) b =
-    headed-more v d e r (Call.output n) calls tt (sym (append-nil (r .header))) refl (headers-taken v d e r w t calls (b .1))
+headers-taken v d e r w t (Call.Update n ∷ calls) b =
+    absorb-more v d e r (Call.Update n) calls tt (sym (append-nil (r .header))) refl (headers-taken v d e r w t calls (b .1))
+headers-taken v d e r w t (Call.Output n ∷ calls) b =
+    absorb-more v d e r (Call.Output n) calls tt (sym (append-nil (r .header))) refl (headers-taken v d e r w t calls (b .1))
 
 -- ---- The data
 
-takes-check : {d : Direction} {phase : Phase} → Takes d phase → phaseCheck phase ≡ Ok 0
-takes-check Takes.takes-init = refl
-takes-check Takes.takes-aad = refl
-takes-check Takes.takes-data = refl
+takes-check : {d : Direction} {phase : Phase} → Active d phase → phaseCheck phase ≡ Ok 0
+takes-check Active.in-init = refl
+takes-check Active.in-aad = refl
+takes-check Active.in-data = refl
 
 room-enough : (a n : ℕ) → n ≤ a → room a n ≡ Ok n
 room-enough a n h = rw (le-ltb a n h)
 
-data-passes : (p : Params) {d : Direction} {phase : Phase} → Takes d phase → (held k a n : ℕ) → updateLen p phase held k
+data-passes : (p : Params) {d : Direction} {phase : Phase} → Active d phase → (held k a n : ℕ) → updateLen p phase held k
     ≡ Ok n → n ≤ a
     → dataCheck p phase held k a ≡ Ok n
 unfolding dataCheck
@@ -196,14 +196,14 @@ data-passes p {phase = phase} t held k a n u h =
     ∙ ap (λ (x : AeadResult). then x (room a)) u ∙ room-enough a n h
 
 pub update-outcome : (v : SparkleVariant) (e : SparkleEngine) (r : Reader) → Follows v e r → (k : ℕ)
-    → step e (Call.update k) .outcome ≡ outcome (updateLen (paramsOf v) (r .phase) (heldOf (paramsOf v) r) k)
+    → step e (Call.Update k) .outcome ≡ outcome (updateLen (paramsOf v) (r .phase) (readerHeld (paramsOf v) r) k)
 unfolding step
 update-outcome v e r w k =
     ap (λ (x : SparkleEngine). outcome (updateOutputLen x k)) (w .same-engine) ∙ ap outcome
     (update-answer v r (w .mac) (w .count) k)
 
 pub total-outcome : (v : SparkleVariant) (e : SparkleEngine) (r : Reader) → Follows v e r → (k : ℕ)
-    → step e (Call.output k) .outcome ≡ outcome (totalLen (paramsOf v) (r .phase) (heldOf (paramsOf v) r) k)
+    → step e (Call.Output k) .outcome ≡ outcome (totalLen (paramsOf v) (r .phase) (readerHeld (paramsOf v) r) k)
 unfolding step
 total-outcome v e r w k =
     ap (λ (x : SparkleEngine). outcome (outputLen x k)) (w .same-engine) ∙ ap outcome
@@ -214,8 +214,8 @@ update-answers : (v : SparkleVariant) (phase : Phase) (held k : ℕ) → k + 64 
     → (n : ℕ) × (updateLen (paramsOf v) phase held k ≡ Ok n) × (n ≤ k + 64)
 update-answers v phase held k fits =
     let p = paramsOf v in
-    let h = heldIn p phase held in
-    let few : h ≤ 64 = omega (arith, heldIn-bound p phase held, keep-bound p phase, small v .rate, small v .key) in (
+    let h = heldData p phase held in
+    let few : h ≤ 64 = omega (arith, heldData-bound p phase held, keep-bound p phase, small v .rate, small v .key) in (
       ready (p .rate) (keep p phase) (h + k) * p .rate,
       updateLen-fits p phase held k (omega arith),
       omega (arith, ready-bound (p .rate) (keep p phase) (h + k)),
@@ -225,48 +225,48 @@ total-answers : (v : SparkleVariant) (phase : Phase) (held : ℕ)
     → (n : ℕ) × (totalLen (paramsOf v) phase held 0 ≡ Ok n) × (n ≤ 96)
 total-answers v phase held = by (opening phase) refl
   where
-    few : heldIn (paramsOf v) phase held ≤ 64
+    few : heldData (paramsOf v) phase held ≤ 64
     few =
-        omega (arith, heldIn-bound (paramsOf v) phase held, keep-bound (paramsOf v) phase, small v .rate, small v .key)
+        omega (arith, heldData-bound (paramsOf v) phase held, keep-bound (paramsOf v) phase, small v .rate, small v .key)
 
     by : (b : Bool) → opening phase ≡ b → (n : ℕ) × (totalLen (paramsOf v) phase held 0 ≡ Ok n) × (n ≤ 96)
     by true o =
         let p = paramsOf v in
-        (heldIn p phase held + 0 - p .key, totalLen-opening p phase held 0 o (omega (arith, few)), omega (arith, few))
+        (heldData p phase held + 0 - p .key, totalLen-opening p phase held 0 o (omega (arith, few)), omega (arith, few))
     by false o =
         let p = paramsOf v in (
-          heldIn p phase held + 0 + p .key,
+          heldData p phase held + 0 + p .key,
           totalLen-sealing p phase held 0 o (omega (arith, few, small v .key)),
           omega (arith, few, small v .key),
         )
 
 room-ample : (e : SparkleEngine) (c : Call) → Ample c → RoomFor e c
 unfolding step updateOutputLen outputLen
-room-ample e (Call.start d key nonce size h) a = tt
-room-ample e (Call.header input) a = tt
-room-ample e (Call.message input out) a =
+room-ample e (Call.Init d key nonce size h) a = tt
+room-ample e (Call.Aad input) a = tt
+room-ample e (Call.Data input out) a =
     let u = update-answers (e .variant) (e .current .phase) (e .current .held) (length input) (a .1) in
     (u .0, ap outcome (u .1), omega (arith, u .2, a .0))
-room-ample e (Call.end out) a =
+room-ample e (Call.Final out) a =
     let u = total-answers (e .variant) (e .current .phase) (e .current .held) in
     (u .0, ap outcome (u .1), omega (arith, u .2, a))
-room-ample e Call.reset a = tt
-room-ample e Call.tag a = tt
-room-ample e (Call.update n) a = tt
-room-ample e (Call.output n) a = tt
+room-ample e Call.Reset a = tt
+room-ample e Call.Mac a = tt
+room-ample e (Call.Update n) a = tt
+room-ample e (Call.Output n) a = tt
 
 pub rooms-ample : (e : SparkleEngine) (calls : List Call) → Each Ample calls → Rooms e calls
 rooms-ample e [] a = tt
 rooms-ample e (c ∷ calls) a = (room-ample e c (a .0), rooms-ample (step e c .engine) calls (a .1))
 
 -- what a data call with room answers
-message-passes : (v : SparkleVariant) (e : SparkleEngine) (r : Reader) → Follows v e r → {d : Direction} → Takes d (r .phase)
-    → (input out : List ℕ) → RoomFor e (Call.message input out)
-    → (n : ℕ) × (dataCheck (paramsOf v) (r .phase) (heldOf (paramsOf v) r) (length input) (length out) ≡ Ok n)
+message-passes : (v : SparkleVariant) (e : SparkleEngine) (r : Reader) → Follows v e r → {d : Direction} → Active d (r .phase)
+    → (input out : List ℕ) → RoomFor e (Call.Data input out)
+    → (n : ℕ) × (dataCheck (paramsOf v) (r .phase) (readerHeld (paramsOf v) r) (length input) (length out) ≡ Ok n)
 message-passes v e r w t input out enough =
     let p = paramsOf v in
     let k = length input in
-    let h = heldOf p r in
+    let h = readerHeld p r in
     let n = enough .0 in
     let u : updateLen p (r .phase) h k ≡ Ok n = outcome-ok _ n (sym (update-outcome v e r w k) ∙ enough .1) in
     (n, data-passes p t h k (length out) n u (enough .2))
@@ -278,7 +278,7 @@ record Carried (v : SparkleVariant) (e : SparkleEngine) (r : Reader) (calls : Li
   body-is : readFrom (paramsOf v) r calls .body ≡ r .body ++ dataBytes calls
 
 carried-more : (v : SparkleVariant) (e : SparkleEngine) (r : Reader) (c : Call) (calls : List Call)
-    → Taken c (step e c .outcome) → read (paramsOf v) r c .reader .header ≡ r .header
+    → IsAccepted c (step e c .outcome) → read (paramsOf v) r c .reader .header ≡ r .header
     → read (paramsOf v) r c .reader .body ≡ r .body ++ dataOf c
     → Carried v (step e c .engine) (read (paramsOf v) r c .reader) calls → Carried v e r (c ∷ calls)
 unfolding readFrom
@@ -289,39 +289,39 @@ carried-more v e r c calls t h b q =
       body-is = q .body-is ∙ ap (λ (l : List ℕ). l ++ dataBytes calls) b ∙ append-assoc (r .body) (dataOf c) (dataBytes calls);
     }
 
-datas-taken : (v : SparkleVariant) (d : Direction) (e : SparkleEngine) (r : Reader) → Follows v e r → Takes d (r .phase)
+datas-taken : (v : SparkleVariant) (d : Direction) (e : SparkleEngine) (r : Reader) → Follows v e r → Active d (r .phase)
     → (calls : List Call) → Each DataCall calls → Rooms e calls
     → Carried v e r calls
 unfolding step read readFrom
 datas-taken v d e r w t [] b rooms = record { taken = tt; header-is = refl; body-is = sym (append-nil (r .body)) }
-datas-taken v d e r w t (Call.start d' key nonce size h ∷ calls) b rooms = absurd (b .0)
-datas-taken v d e r w t (Call.header input ∷ calls) b rooms = absurd (b .0)
-datas-taken v d e r w t (Call.message input out ∷ calls) b rooms =
+datas-taken v d e r w t (Call.Init d' key nonce size h ∷ calls) b rooms = absurd (b .0)
+datas-taken v d e r w t (Call.Aad input ∷ calls) b rooms = absurd (b .0)
+datas-taken v d e r w t (Call.Data input out ∷ calls) b rooms =
     let q = message-passes v e r w t input out (rooms .0) in
     let is = ap (λ (k : AeadResult). readMessage k r input .reader) (q .1) in
-    let t' : Takes d (read (paramsOf v) r (Call.message input out) .reader .phase) =
-    subst (λ (x : Reader). Takes d (x .phase)) (sym is) (takes-message t) in
-    let body-is : read (paramsOf v) r (Call.message input out) .reader .body ≡ r .body ++ input =
+    let t' : Active d (read (paramsOf v) r (Call.Data input out) .reader .phase) =
+    subst (λ (x : Reader). Active d (x .phase)) (sym is) (active-message t) in
+    let body-is : read (paramsOf v) r (Call.Data input out) .reader .body ≡ r .body ++ input =
     ap (λ (x : Reader). x .body) is in
-    carried-more v e r (Call.message input out) calls
+    carried-more v e r (Call.Data input out) calls
     (q .0, message-outcome v e r w input out ∙ ap outcome (q .1)) (ap (λ (x : Reader). x .header) is) body-is
-    (datas-taken v d (step e (Call.message input out) .engine) (read (paramsOf v) r (Call.message input out) .reader)
-    (follows-step v e r w (Call.message input out)) t' calls (b .1) (rooms .1))
-datas-taken v d e r w t (Call.end out ∷ calls) b rooms = absurd (b .0)
-datas-taken v d e r w t (Call.reset ∷ calls) b rooms = absurd (b .0)
-datas-taken v d e r w t (Call.tag ∷ calls) b rooms =
-    carried-more v e r Call.tag calls (countOf (step e Call.tag .outcome), refl) refl (sym (append-nil (r .body)))
+    (datas-taken v d (step e (Call.Data input out) .engine) (read (paramsOf v) r (Call.Data input out) .reader)
+    (follows-step v e r w (Call.Data input out)) t' calls (b .1) (rooms .1))
+datas-taken v d e r w t (Call.Final out ∷ calls) b rooms = absurd (b .0)
+datas-taken v d e r w t (Call.Reset ∷ calls) b rooms = absurd (b .0)
+datas-taken v d e r w t (Call.Mac ∷ calls) b rooms =
+    carried-more v e r Call.Mac calls (countOf (step e Call.Mac .outcome), refl) refl (sym (append-nil (r .body)))
     (datas-taken v d e r w t calls (b .1) (rooms .1))
-datas-taken v d e r w t (Call.update n ∷ calls) b rooms =
-    carried-more v e r (Call.update n) calls tt refl (sym (append-nil (r .body)))
+datas-taken v d e r w t (Call.Update n ∷ calls) b rooms =
+    carried-more v e r (Call.Update n) calls tt refl (sym (append-nil (r .body)))
     (datas-taken v d e r w t calls (b .1) (rooms .1))
-datas-taken v d e r w t (Call.output n ∷ calls) b rooms =
-    carried-more v e r (Call.output n) calls tt refl (sym (append-nil (r .body)))
+datas-taken v d e r w t (Call.Output n ∷ calls) b rooms =
+    carried-more v e r (Call.Output n) calls tt refl (sym (append-nil (r .body)))
     (datas-taken v d e r w t calls (b .1) (rooms .1))
 
 -- ---- The end
 
-end-passes : (p : Params) {d : Direction} {phase : Phase} → Takes d phase → (held a n : ℕ) → totalLen p phase held 0 ≡ Ok n
+end-passes : (p : Params) {d : Direction} {phase : Phase} → Active d phase → (held a n : ℕ) → totalLen p phase held 0 ≡ Ok n
     → n ≤ a
     → whole p phase held n ≡ Ok n → endCheck p phase held a ≡ Ok n
 unfolding endCheck
@@ -331,51 +331,51 @@ end-passes p {phase = phase} t held a n u h q =
     ∙ ap (λ (x : AeadResult). then (then x (room a)) (whole p phase held)) u
     ∙ ap (λ (x : AeadResult). then x (whole p phase held)) (room-enough a n h) ∙ q
 
-seal-passes : (v : SparkleVariant) (e : SparkleEngine) (r : Reader) → Follows v e r → Takes Encrypt (r .phase)
+seal-passes : (v : SparkleVariant) (e : SparkleEngine) (r : Reader) → Follows v e r → Active Encrypt (r .phase)
     → (out : List ℕ)
-    → RoomFor e (Call.end out) → (n : ℕ) × (endCheck (paramsOf v) (r .phase) (heldOf (paramsOf v) r) (length out) ≡ Ok n)
+    → RoomFor e (Call.Final out) → (n : ℕ) × (endCheck (paramsOf v) (r .phase) (readerHeld (paramsOf v) r) (length out) ≡ Ok n)
 seal-passes v e r w t out enough =
     let p = paramsOf v in
-    let h = heldOf p r in
+    let h = readerHeld p r in
     let n = enough .0 in
     let u : totalLen p (r .phase) h 0 ≡ Ok n = outcome-ok _ n (sym (total-outcome v e r w 0) ∙ enough .1) in
-    (n, end-passes p t h (length out) n u (enough .2) (rw (takes-opening t)))
+    (n, end-passes p t h (length out) n u (enough .2) (rw (active-opening t)))
 
-whole-open : (p : Params) (phase : Phase) (held n : ℕ) → opening phase ≡ true → p .key ≤ heldIn p phase held
+whole-open : (p : Params) (phase : Phase) (held n : ℕ) → opening phase ≡ true → p .key ≤ heldData p phase held
     → whole p phase held n ≡ Ok n
-whole-open p phase held n o k = rw (o, le-ltb (heldIn p phase held) (p .key) k)
+whole-open p phase held n o k = rw (o, le-ltb (heldData p phase held) (p .key) k)
 
 -- an opening with a tag's bytes holds them
 rest-tag : (rate keep n : ℕ) → keep ≤ n → keep ≤ n - ready rate keep n * rate
 unfolding ready
 rest-tag rate keep n h = omega (arith, div-mul-le-self (n - (keep + 1)) rate)
 
-takes-held : (p : Params) → Sizes p → {phase : Phase} → Takes Decrypt phase
+active-held : (p : Params) → Sizes p → {phase : Phase} → Active Decrypt phase
     → (loaded : Bool) (key nonce initial header body : List ℕ) (mac : Mac) (c : ℕ)
     → Standing p phase loaded key nonce initial header body mac c → p .key ≤ length body
-    → p .key ≤ heldIn p phase (heldOf p (kept loaded key nonce initial phase header body))
-takes-held p s Takes.takes-init loaded key nonce initial header body mac c st enough =
+    → p .key ≤ heldData p phase (readerHeld p (kept loaded key nonce initial phase header body))
+active-held p s Active.in-init loaded key nonce initial header body mac c st enough =
     absurd (omega (arith, ap length (st .4)))
-takes-held p s Takes.takes-aad loaded key nonce initial header body mac c st enough =
+active-held p s Active.in-aad loaded key nonce initial header body mac c st enough =
     absurd (omega (arith, ap length (st .4)))
-takes-held p s Takes.takes-data loaded key nonce initial header body mac c st enough =
+active-held p s Active.in-data loaded key nonce initial header body mac c st enough =
     omega (arith, rest-tag (p .rate) (p .key) (length body) enough)
 
-open-passes : (v : SparkleVariant) (e : SparkleEngine) (r : Reader) → Follows v e r → Takes Decrypt (r .phase)
+open-passes : (v : SparkleVariant) (e : SparkleEngine) (r : Reader) → Follows v e r → Active Decrypt (r .phase)
     → (out : List ℕ)
-    → RoomFor e (Call.end out) → paramsOf v .key ≤ length (r .body)
-    → (n : ℕ) × (endCheck (paramsOf v) (r .phase) (heldOf (paramsOf v) r) (length out) ≡ Ok n)
+    → RoomFor e (Call.Final out) → paramsOf v .key ≤ length (r .body)
+    → (n : ℕ) × (endCheck (paramsOf v) (r .phase) (readerHeld (paramsOf v) r) (length out) ≡ Ok n)
 open-passes v e r w t out enough tagged =
     let p = paramsOf v in
-    let h = heldOf p r in
+    let h = readerHeld p r in
     let n = enough .0 in
     let u : totalLen p (r .phase) h 0 ≡ Ok n = outcome-ok _ n (sym (total-outcome v e r w 0) ∙ enough .1) in
     let k =
-    takes-held p (sizes v) t (r .loaded) (r .key) (r .nonce) (r .initial) (r .header) (r .body) (w .mac) (w .count)
+    active-held p (sizes v) t (r .loaded) (r .key) (r .nonce) (r .initial) (r .header) (r .body) (w .mac) (w .count)
     (w .standing) tagged in (
       n,
       end-passes p t h (length out) n u (enough .2)
-          (whole-open p (r .phase) h n (takes-opening t) k),
+          (whole-open p (r .phase) h n (active-opening t) k),
     )
 
 -- ---- Whole messages
@@ -394,9 +394,9 @@ start-heading : (d : Direction) (initial : List ℕ) → Heading d (headerPhase 
 start-heading d [] = heading-init
 start-heading d (x ∷ initial) = heading-aad
 
-heading-takes : {d : Direction} {phase : Phase} → Heading d phase → Takes d phase
-heading-takes heading-init = Takes.takes-init
-heading-takes heading-aad = Takes.takes-aad
+heading-takes : {d : Direction} {phase : Phase} → Heading d phase → Active d phase
+heading-takes heading-init = Active.in-init
+heading-takes heading-aad = Active.in-aad
 
 -- header and data calls after a start that is taken
 record Arrived (v : SparkleVariant) (d : Direction) (key nonce initial : List ℕ) (e : SparkleEngine)
@@ -429,12 +429,12 @@ module _ (v : SparkleVariant) (before : List Call) (key nonce : List ℕ) (size 
     (key-fits : length key ≡ paramsOf v .key) (nonce-fits : length nonce ≡ paramsOf v .rate)
     (size-fits : size ≡ paramsOf v .key)
     (bh : Each HeaderCall hs) (bm : Each DataCall ms) where
-  between : (d : Direction) → AllBetween (begunEngine v before d key nonce size initial) (hs ++ ms)
-  between d = all-between (begunEngine v before d key nonce size initial) hs ms bh bm
+  between : (d : Direction) → AllBetween (startedEngine v before d key nonce size initial) (hs ++ ms)
+  between d = all-between (startedEngine v before d key nonce size initial) hs ms bh bm
 
   -- a start that is taken
   sealing-starts : repeated (reader v before) key nonce ≡ false
-      → step (run v before) (Call.start Encrypt key nonce size initial) .outcome ≡ Outcome.ok 0
+      → step (run v before) (Call.Init Encrypt key nonce size initial) .outcome ≡ Outcome.ok 0
   sealing-starts fresh =
       start-outcome v (run v before) (reader v before) (follows-run v before) Encrypt key nonce size initial
       ∙ ap startOutcome
@@ -442,7 +442,7 @@ module _ (v : SparkleVariant) (before : List Call) (key nonce : List ℕ) (size 
       (repeated (reader v before) key nonce) key-fits nonce-fits size-fits refl
       ∙ ap (λ (b : Bool). cond b (StartErr NonceReuse) StartOk) fresh)
 
-  opening-starts : step (run v before) (Call.start Decrypt key nonce size initial) .outcome ≡ Outcome.ok 0
+  opening-starts : step (run v before) (Call.Init Decrypt key nonce size initial) .outcome ≡ Outcome.ok 0
   opening-starts =
       start-outcome v (run v before) (reader v before) (follows-run v before) Decrypt key nonce size initial
       ∙ ap startOutcome
@@ -450,18 +450,18 @@ module _ (v : SparkleVariant) (before : List Call) (key nonce : List ℕ) (size 
       (repeated (reader v before) key nonce) key-fits nonce-fits size-fits refl)
 
   -- the last reader in its parts
-  module _ (d : Direction) (o : step (run v before) (Call.start d key nonce size initial) .outcome ≡ Outcome.ok 0)
+  module _ (d : Direction) (o : step (run v before) (Call.Init d key nonce size initial) .outcome ≡ Outcome.ok 0)
       (rooms : Rooms (run v before) (messageCalls d key nonce size initial hs ms out)) where
-    end-room : Rooms (begunEngine v before d key nonce size initial) (hs ++ ms)
-        × Rooms (runFrom (begunEngine v before d key nonce size initial) (hs ++ ms)) (Call.end out ∷ [])
-    end-room = rooms-append (begunEngine v before d key nonce size initial) (hs ++ ms) (Call.end out ∷ []) (rooms .1)
+    end-room : Rooms (startedEngine v before d key nonce size initial) (hs ++ ms)
+        × Rooms (runFrom (startedEngine v before d key nonce size initial) (hs ++ ms)) (Call.Final out ∷ [])
+    end-room = rooms-append (startedEngine v before d key nonce size initial) (hs ++ ms) (Call.Final out ∷ []) (rooms .1)
 
-    ready-end : Arrived v d key nonce initial (begunEngine v before d key nonce size initial) hs ms
+    ready-end : Arrived v d key nonce initial (startedEngine v before d key nonce size initial) hs ms
     ready-end =
-        arrived v d key nonce initial (begunEngine v before d key nonce size initial)
-        (begun-follows v before d key nonce size initial (hs ++ ms) out 0 o (between d)) hs ms bh bm (end-room .0)
+        arrived v d key nonce initial (startedEngine v before d key nonce size initial)
+        (start-follows v before d key nonce size initial (hs ++ ms) out 0 o (between d)) hs ms bh bm (end-room .0)
 
-    end-follows : Follows v (runFrom (begunEngine v before d key nonce size initial) (hs ++ ms))
+    end-follows : Follows v (runFrom (startedEngine v before d key nonce size initial) (hs ++ ms))
         (lastReader v d key nonce initial (hs ++ ms))
     end-follows = last-follows v before d key nonce size initial (hs ++ ms) out 0 o (between d)
 
@@ -479,9 +479,9 @@ module _ (v : SparkleVariant) (before : List Call) (key nonce : List ℕ) (size 
 
     -- the engine after the whole list
     whole-run : runFrom (run v before) (messageCalls d key nonce size initial hs ms out)
-        ≡ step (runFrom (begunEngine v before d key nonce size initial) (hs ++ ms)) (Call.end out) .engine
+        ≡ step (runFrom (startedEngine v before d key nonce size initial) (hs ++ ms)) (Call.Final out) .engine
     unfolding runFrom
-    whole-run = run-append (begunEngine v before d key nonce size initial) (hs ++ ms) (Call.end out ∷ [])
+    whole-run = run-append (startedEngine v before d key nonce size initial) (hs ++ ms) (Call.Final out ∷ [])
 
   -- After any calls, a sealing with a pair that is not the last loaded and with room for its outputs is accepted, and
   -- writes the specification's packet of the whole header and the whole data, however these are cut.
@@ -500,20 +500,20 @@ module _ (v : SparkleVariant) (before : List Call) (key nonce : List ℕ) (size 
       let t = end-going Encrypt o rooms .takes in
       let a = ready-end Encrypt o rooms in
       let q = seal-passes v _ r w t out (end-room Encrypt o rooms .1 .0) in
-      let f = seal-end v _ r w out (q .0) (q .1) (takes-opening t) .outcome-is in
+      let f = seal-end v _ r w out (q .0) (q .1) (active-opening t) .outcome-is in
       let z = end-ended v _ r w out (q .0) (q .1) in
       let sealing =
       ap (λ (b : Bool). cond b (decrypt p (r .key) (r .nonce) (r .header) (bodyOf p (r .body))) (r .body))
-      (takes-opening t) in
+      (active-opening t) in
       record {
-        accepted = ((0, o), accepts-append _ (hs ++ ms) (Call.end out ∷ []) (a .taken) ((q .0, f), tt));
+        accepted = ((0, o), accepts-append _ (hs ++ ms) (Call.Final out ∷ []) (a .taken) ((q .0, f), tt));
         bytes-are =
             sealed-taken v before key nonce size initial (hs ++ ms) out 0 (q .0) o (between Encrypt) f
             ∙ ap₂ (λ (x y : List ℕ). seal p key nonce x y) (a .header-is) (a .body-is);
         tag-is =
             ap macOf (whole-run Encrypt o rooms) ∙ z .mac-is
             ∙ ap (λ (b : Bool). cond (cond b (verified p (r .key) (r .nonce) (r .header) (r .body)) true)
-            (readable (tag p (r .key) (r .nonce) (r .header) (messageOf p r))) noMac) (takes-opening t)
+            (readable (tag p (r .key) (r .nonce) (r .header) (messageOf p r))) noMac) (active-opening t)
             ∙ ap (λ (x : List ℕ). readable (tag p (r .key) (r .nonce) (r .header) x)) sealing
             ∙ in-parts Encrypt o rooms Mac (λ k n x y. readable (tag p k n x y));
         steps-are =
@@ -529,7 +529,7 @@ module _ (v : SparkleVariant) (before : List Call) (key nonce : List ℕ) (size 
     -- an opening's end past its checks
     open-checked : (n : ℕ)
         × (endCheck (paramsOf v) (lastReader v Decrypt key nonce initial (hs ++ ms) .phase)
-        (heldOf (paramsOf v) (lastReader v Decrypt key nonce initial (hs ++ ms))) (length out) ≡ Ok n)
+        (readerHeld (paramsOf v) (lastReader v Decrypt key nonce initial (hs ++ ms))) (length out) ≡ Ok n)
     open-checked =
         open-passes v _ _ (end-follows Decrypt opening-starts rooms) (end-going Decrypt opening-starts rooms .takes) out
         (end-room Decrypt opening-starts rooms .1 .0) (omega (arith, ap length (ready-end Decrypt opening-starts rooms .body-is)))
@@ -542,7 +542,7 @@ module _ (v : SparkleVariant) (before : List Call) (key nonce : List ℕ) (size 
         let p = paramsOf v in
         let r = lastReader v Decrypt key nonce initial (hs ++ ms) in
         ap (λ (b : Bool). cond b (decrypt p (r .key) (r .nonce) (r .header) (bodyOf p (r .body))) (r .body))
-        (takes-opening (end-going Decrypt opening-starts rooms .takes))
+        (active-opening (end-going Decrypt opening-starts rooms .takes))
         ∙ in-parts Decrypt opening-starts rooms (List ℕ) (λ k n x y. decrypt p k n x (bodyOf p y))
 
     open-steps : (e : SparkleEngine) → stepsNow e
@@ -565,15 +565,15 @@ module _ (v : SparkleVariant) (before : List Call) (key nonce : List ℕ) (size 
           (lastReader v Decrypt key nonce initial (hs ++ ms) .body) ≡ g
       open-verdict = in-parts Decrypt opening-starts rooms Bool (verified (paramsOf v)) ∙ is
 
-      open-outcome : step (runFrom (begunEngine v before Decrypt key nonce size initial) (hs ++ ms)) (Call.end out) .outcome
+      open-outcome : step (runFrom (startedEngine v before Decrypt key nonce size initial) (hs ++ ms)) (Call.Final out) .outcome
           ≡ cond g (Outcome.ok (open-checked .0)) (Outcome.no (6 ∷ []))
       open-outcome =
           open-end v _ _ (end-follows Decrypt opening-starts rooms) out (open-checked .0) (open-checked .1)
-          (takes-opening (end-going Decrypt opening-starts rooms .takes)) .outcome-is
+          (active-opening (end-going Decrypt opening-starts rooms .takes)) .outcome-is
           ∙ ap (λ (b : Bool). cond b (Outcome.ok (open-checked .0)) (Outcome.no (6 ∷ []))) open-verdict
 
       open-mac : macOf
-          (step (runFrom (begunEngine v before Decrypt key nonce size initial) (hs ++ ms)) (Call.end out) .engine)
+          (step (runFrom (startedEngine v before Decrypt key nonce size initial) (hs ++ ms)) (Call.Final out) .engine)
           ≡ cond g (readable (tag (paramsOf v) key nonce (initial ++ headerBytes hs)
           (decrypt (paramsOf v) key nonce (initial ++ headerBytes hs) (bodyOf (paramsOf v) (dataBytes ms))))) noMac
       open-mac =
@@ -581,7 +581,7 @@ module _ (v : SparkleVariant) (before : List Call) (key nonce : List ℕ) (size 
           let r = lastReader v Decrypt key nonce initial (hs ++ ms) in
           let H = initial ++ headerBytes hs in
           let z = end-ended v _ r (end-follows Decrypt opening-starts rooms) out (open-checked .0) (open-checked .1) in
-          let t = takes-opening (end-going Decrypt opening-starts rooms .takes) in
+          let t = active-opening (end-going Decrypt opening-starts rooms .takes) in
           z .mac-is
           ∙ ap₂ (λ (b : Bool) (x : List ℕ). cond (cond b (verified p (r .key) (r .nonce) (r .header) (r .body)) true)
           (readable (tag p (r .key) (r .nonce) (r .header) x)) noMac)
@@ -603,7 +603,7 @@ module _ (v : SparkleVariant) (before : List Call) (key nonce : List ℕ) (size 
         record {
           accepted = (
             (0, o),
-            accepts-append _ (hs ++ ms) (Call.end out ∷ []) (a .taken)
+            accepts-append _ (hs ++ ms) (Call.Final out ∷ []) (a .taken)
                 ((open-checked .0, open-outcome true good), tt),
           );
           bytes-are =
@@ -616,14 +616,14 @@ module _ (v : SparkleVariant) (before : List Call) (key nonce : List ℕ) (size 
 
     -- A packet that is not verified is refused with 6 at the end, and nothing else is refused.
     pub rejected : verified (paramsOf v) key nonce (initial ++ headerBytes hs) (dataBytes ms) ≡ false
-        → Rejects (run v before) (Call.start Decrypt key nonce size initial ∷ (hs ++ ms)) out
+        → Rejects (run v before) (Call.Init Decrypt key nonce size initial ∷ (hs ++ ms)) out
         (steps (paramsOf v) (length (initial ++ headerBytes hs)) (length (dataBytes ms) - paramsOf v .key) % 2 ^ 64)
     unfolding runFrom
     rejected bad =
         let o = opening-starts in
         let a = ready-end Decrypt o rooms in
         let w = end-follows Decrypt o rooms in
-        let t = takes-opening (end-going Decrypt o rooms .takes) in
+        let t = active-opening (end-going Decrypt o rooms .takes) in
         let z = end-ended v _ _ w out (open-checked .0) (open-checked .1) in
         record {
           accepted = ((0, o), a .taken);

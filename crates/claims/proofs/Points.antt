@@ -14,10 +14,10 @@ use Rattle.schwaemm.proofs.States.{stateLength}
 use Rattle.tc_aead_cipher.specs.declared.phase.Direction.{Direction}
 use Rattle.tc_aead_cipher.specs.declared.phase.Phase.{Phase}
 use Rattle.tc_aead_cipher.specs.declared.phase.Phase.the-variants.{Aad, Data}
-use Rattle.tc_sparkle_aead.specs.declared.engine.Point.{Point}
+use Rattle.tc_sparkle_aead.specs.declared.message.Point.{Point}
 use Rattle.tc_aead_cipher.specs.Checks.{keep}
 use Rattle.tc_sparkle_aead.specs.Engine.{zeros, inArray}
-use Rattle.tc_sparkle_aead.specs.Calls.{stateIn, putState, heldBytes, stream, blocks, streamed}
+use Rattle.tc_sparkle_aead.specs.Calls.{stateIn, putState, buffered, stream, blockCount, streamed}
 use Rattle.tc_aead_cipher.proofs.VariantLaws.{Small, keep-bound}
 
 -- ---- Arrays
@@ -99,17 +99,17 @@ module _ (p : Params) (h : Sizes p) (m : Small p) where
         → take k (inArray 64 (held (p .rate) keep d)) ≡ held (p .rate) keep d
     held-back d k e = take-inArray 64 k (held (p .rate) keep d) (omega (arith, held-fits d)) (sym e)
 
-  pub heldBytes-aad : (step : List ℕ → List ℕ → List ℕ) (d : Direction) (s a : List ℕ)
-      → heldBytes p (blockPoint p 0 step (Aad d) s a) ≡ held (p .rate) 0 a
-  unfolding heldBytes blockPoint
-  heldBytes-aad step d s a =
+  pub buffered-aad : (step : List ℕ → List ℕ → List ℕ) (d : Direction) (s a : List ℕ)
+      → buffered p (blockPoint p 0 step (Aad d) s a) ≡ held (p .rate) 0 a
+  unfolding buffered blockPoint
+  buffered-aad step d s a =
       let b : 0 ≤ p .key = omega arith in
       held-back 0 b a (min (length (held (p .rate) 0 a)) (p .rate)) (omega (arith, held-fits 0 b a))
 
-  pub heldBytes-data : (step : List ℕ → List ℕ → List ℕ) (d : Direction) (s a : List ℕ)
-      → heldBytes p (blockPoint p (keep p (Data d)) step (Data d) s a) ≡ held (p .rate) (keep p (Data d)) a
-  unfolding heldBytes blockPoint
-  heldBytes-data step d s a =
+  pub buffered-data : (step : List ℕ → List ℕ → List ℕ) (d : Direction) (s a : List ℕ)
+      → buffered p (blockPoint p (keep p (Data d)) step (Data d) s a) ≡ held (p .rate) (keep p (Data d)) a
+  unfolding buffered blockPoint
+  buffered-data step d s a =
       let b = keep-bound p (Data d) in
       held-back (keep p (Data d)) b a (min (length (held (p .rate) (keep p (Data d)) a)) (keep p (Data d) + p .rate))
       (omega (arith, held-fits (keep p (Data d)) b a))
@@ -118,7 +118,7 @@ module _ (p : Params) (h : Sizes p) (m : Small p) where
   module _ (keep : ℕ) (step : List ℕ → List ℕ → List ℕ)
       (whole : (s b : List ℕ) → length s ≡ stateLength p → length (step s b) ≡ stateLength p) (old : Phase)
       (s a : List ℕ) (hs : length s ≡ stateLength p)
-      (holds : heldBytes p (blockPoint p keep step old s a) ≡ held (p .rate) keep a) (x : List ℕ) where
+      (holds : buffered p (blockPoint p keep step old s a) ≡ held (p .rate) keep a) (x : List ℕ) where
     length-after : (n : ℕ) (t d : List ℕ) → length t ≡ stateLength p → length (after (p .rate) step n t d) ≡ stateLength p
     length-after = after-keeps (p .rate) step (λ t. length t ≡ stateLength p) whole
 
@@ -131,10 +131,10 @@ module _ (p : Params) (h : Sizes p) (m : Small p) where
     unfolding blockPoint
     state-point = stateIn-array _ (length-after (ready (p .rate) keep (length a)) s a hs)
 
-    pub blocks-point : blocks p keep (blockPoint p keep step old s a) x
+    pub blockCount-point : blockCount p keep (blockPoint p keep step old s a) x
         ≡ ready (p .rate) keep (length (held (p .rate) keep a ++ x))
-    unfolding blocks
-    blocks-point = ap (λ (l : List ℕ). ready (p .rate) keep (length l)) stream-point
+    unfolding blockCount
+    blockCount-point = ap (λ (l : List ℕ). ready (p .rate) keep (length l)) stream-point
 
     pub put-point : (t : List ℕ) → length t ≡ stateLength p
         → putState p (blockPoint p keep step old s a .words) t ≡ inArray 16 t
@@ -142,11 +142,11 @@ module _ (p : Params) (h : Sizes p) (m : Small p) where
     put-point t = putState-array _ t (length-after (ready (p .rate) keep (length a)) s a hs)
 
     words-point : putState p (blockPoint p keep step old s a .words)
-        (after (p .rate) step (blocks p keep (blockPoint p keep step old s a) x)
+        (after (p .rate) step (blockCount p keep (blockPoint p keep step old s a) x)
         (stateIn p (blockPoint p keep step old s a .words)) (stream p (blockPoint p keep step old s a) x))
         ≡ inArray 16 (after (p .rate) step (ready (p .rate) keep (length (a ++ x))) s (a ++ x))
     words-point =
-        rw (state-point, blocks-point, stream-point, ← after-cut (p .rate) keep (h .rate-positive) a x step s)
+        rw (state-point, blockCount-point, stream-point, ← after-cut (p .rate) keep (h .rate-positive) a x step s)
         (put-point _ (length-after (ready (p .rate) keep (length (a ++ x))) s (a ++ x) hs))
 
     pub streamed-point : (new : Phase)
@@ -162,8 +162,8 @@ module _ (p : Params) (h : Sizes p) (m : Small p) where
 
     pub given-point : (out : List ℕ → List ℕ → List ℕ)
         → given (p .rate) step out (ready (p .rate) keep (length a)) s a
-        ++ given (p .rate) step out (blocks p keep (blockPoint p keep step old s a) x)
+        ++ given (p .rate) step out (blockCount p keep (blockPoint p keep step old s a) x)
         (stateIn p (blockPoint p keep step old s a .words)) (stream p (blockPoint p keep step old s a) x)
         ≡ given (p .rate) step out (ready (p .rate) keep (length (a ++ x))) s (a ++ x)
     given-point out =
-        rw (state-point, blocks-point, stream-point) (sym (given-cut (p .rate) keep (h .rate-positive) a x step out s))
+        rw (state-point, blockCount-point, stream-point) (sym (given-cut (p .rate) keep (h .rate-positive) a x step out s))

@@ -21,14 +21,14 @@ use Rattle.tc_aead_cipher.specs.declared.aead_error.AeadResult.the-variants.{Ok
 use Rattle.tc_aead_cipher.specs.declared.aead_init_error.AeadInitError.the-variants.{InvalidKeyLength, InvalidNonceLength, InvalidMacSize, NonceReuse}
 use Rattle.tc_aead_cipher.specs.declared.aead_init_error.AeadInitResult.{AeadInitResult}
 use Rattle.tc_aead_cipher.specs.declared.aead_init_error.AeadInitResult.the-variants.{Ok as StartOk, Err as StartErr}
-use Rattle.tc_sparkle_aead.specs.declared.engine.Point.{Point}
+use Rattle.tc_sparkle_aead.specs.declared.message.Point.{Point}
 use Rattle.tc_sparkle_aead.specs.declared.engine.Steps.{Steps}
 use Rattle.tc_sparkle_aead.specs.declared.engine.SparkleEngine.{SparkleEngine}
 use Rattle.tc_aead_cipher.specs.Variant.{paramsOf}
 use Rattle.tc_aead_cipher.specs.Checks.{opens, opening, keep, updateLen, totalLen, aadCheck, dataCheck, endCheck, startCheck}
 use Rattle.tc_sparkle_aead.specs.Engine.{zeros, inArray, noMessage, noMac, noSteps, initSteps, resetSteps, repeats, updateOutputLen, outputLen}
-use Rattle.tc_sparkle_aead.specs.Calls.{heldCount, heldBytes, stream, blocks, streamed, addSteps, atPoint, startPoint, headed, headedSteps, aadIn, beginBy, beginData, dataIn, openBlock, lastSteps, finalPoint, ended, afterHeader, withoutHeader}
-use Rattle.tc_sparkle_aead.specs.Calls.{refused, started, init, initBy, aadBy, processAadBytes, dataBy, dataAnswer, finalAnswer, processBytes, receivedTag, openTag, readable, sealEnd, openEndBy, openEnd, finalBy, doFinal, resetPoint, macOf, stepsNow}
+use Rattle.tc_sparkle_aead.specs.Calls.{bufferedCount, buffered, stream, blockCount, streamed, addSteps, atPoint, startPoint, absorbHeader, headerSteps, aadIn, beginBy, beginData, dataIn, openBlock, lastSteps, finalPoint, finalEngine, afterHeader, withoutHeader}
+use Rattle.tc_sparkle_aead.specs.Calls.{refused, started, init, initBy, aadBy, processAadBytes, dataBy, dataAnswer, finalAnswer, processBytes, receivedTag, openTag, readable, sealFinal, openFinalBy, openFinal, finalBy, doFinal, resetPoint, macOf, stepsNow}
 use Rattle.tc_sparkle_aead.specs.Calls.{reset as resetEngine}
 use Rattle.tc_aead_cipher.specs.Call.{Call}
 use Rattle.claims.specs.Shape.{Shape, shape}
@@ -80,51 +80,51 @@ endNote (Err x) opens right = None
 endNote (Ok n) opens right = cond opens (verdictOf right) None
 
 unfoldable pub asked : SparkleEngine → Call → Verdict
-asked e (Call.start d key nonce size header) =
+asked e (Call.Init d key nonce size header) =
     let p = paramsOf (e .variant) in
     startNote (startCheck p d (length key) (length nonce) size (repeats p (e .pair) key nonce)) d (repeats p (e .pair) key nonce)
-asked e (Call.header input) = None
-asked e (Call.message input out) = None
-asked e (Call.end out) =
+asked e (Call.Aad input) = None
+asked e (Call.Data input out) = None
+asked e (Call.Final out) =
     endNote (endCheck (paramsOf (e .variant)) (e .current .phase) (e .current .held) (length out))
     (opening (e .current .phase)) (same (receivedTag (beginData e)) (openTag (beginData e)))
-asked e Call.reset = None
-asked e Call.tag = None
-asked e (Call.update n) = None
-asked e (Call.output n) = None
+asked e Call.Reset = None
+asked e Call.Mac = None
+asked e (Call.Update n) = None
+asked e (Call.Output n) = None
 
 -- ---- Points
 
 -- how many bytes a point holds
-abbrev pub heldSize : Params → Outside → ℕ
-heldSize p q = min (heldCount p (q .phase) (q .held)) (q .size)
+abbrev pub publicHeld : Params → Outside → ℕ
+publicHeld p q = min (bufferedCount p (q .phase) (q .held)) (q .size)
 
 -- the point after a stream of n more bytes
 abbrev pub flowed : Params → ℕ → Phase → Outside → ℕ → Outside
 flowed p keep phase q n =
     record {
       phase = phase;
-      held = heldSize p q + n - ready (p .rate) keep (heldSize p q + n) * p .rate;
+      held = publicHeld p q + n - ready (p .rate) keep (publicHeld p q + n) * p .rate;
       size = 64;
     }
 
-length-heldBytes : (p : Params) (at : Point) → length (heldBytes p at) ≡ heldSize p (outside at)
-unfolding heldBytes
-length-heldBytes p at = length-take _ _
+length-buffered : (p : Params) (at : Point) → length (buffered p at) ≡ publicHeld p (outside at)
+unfolding buffered
+length-buffered p at = length-take _ _
 
 length-stream : (p : Params) (at : Point) (input : List ℕ)
-    → length (stream p at input) ≡ heldSize p (outside at) + length input
+    → length (stream p at input) ≡ publicHeld p (outside at) + length input
 unfolding stream
-length-stream p at input = rw (length-append, length-heldBytes)
+length-stream p at input = rw (length-append, length-buffered)
 
 pub length-inArray : (n : ℕ) (l : List ℕ) → length (inArray n l) ≡ n
 unfolding inArray zeros
 length-inArray n l = rw (length-take, length-append, length-replicate) (omega arith)
 
-blocks-flowed : (p : Params) (keep : ℕ) (at : Point) (input : List ℕ)
-    → blocks p keep at input ≡ ready (p .rate) keep (heldSize p (outside at) + length input)
-unfolding blocks
-blocks-flowed p keep at input = rw length-stream
+blockCount-flowed : (p : Params) (keep : ℕ) (at : Point) (input : List ℕ)
+    → blockCount p keep at input ≡ ready (p .rate) keep (publicHeld p (outside at) + length input)
+unfolding blockCount
+blockCount-flowed p keep at input = rw length-stream
 
 streamed-flowed : (p : Params) (keep : ℕ) (s : List ℕ → List ℕ → List ℕ) (phase : Phase) (at : Point) (input : List ℕ)
     → outside (streamed p keep s phase at input) ≡ flowed p keep phase (outside at) (length input)
@@ -160,12 +160,12 @@ wipedNext u =
 abbrev pub startOutside : Direction → Outside
 startOutside d = record { phase = Init d; held = 0; size = 64 }
 
-abbrev pub headedNext : Params → Direction → Outside → ℕ → Outside
-headedNext p d q zero = q
-headedNext p d q (suc n) = flowed p 0 (Aad d) q (suc n)
+abbrev pub absorbNext : Params → Direction → Outside → ℕ → Outside
+absorbNext p d q zero = q
+absorbNext p d q (suc n) = flowed p 0 (Aad d) q (suc n)
 
-abbrev pub headedCount : Params → Outside → ℕ → ℕ
-headedCount p q n = ready (p .rate) 0 (heldSize p q + n) * p .slim
+abbrev pub absorbSteps : Params → Outside → ℕ → ℕ
+absorbSteps p q n = ready (p .rate) 0 (publicHeld p q + n) * p .slim
 
 abbrev pub startNext : AeadInitResult → Public → Direction → ℕ → Public
 startNext (StartErr x) u d n = wipedNext u
@@ -173,9 +173,9 @@ startNext StartOk u d n =
     let p = paramsOf (u .variant) in
     record {
       variant = u .variant;
-      current = headedNext p d (startOutside d) n;
-      initial = headedNext p d (startOutside d) n;
-      steps = initSteps ((p .big + headedCount p (startOutside d) n) % 2 ^ 64);
+      current = absorbNext p d (startOutside d) n;
+      initial = absorbNext p d (startOutside d) n;
+      steps = initSteps ((p .big + absorbSteps p (startOutside d) n) % 2 ^ 64);
       readable = false;
     }
 
@@ -183,9 +183,9 @@ startNext StartOk u d n =
 abbrev pub headerIn : Phase → Public → ℕ → Public
 headerIn Uninitialized u n = u
 headerIn (Init d) u n =
-    let p = paramsOf (u .variant) in moved u (headedNext p d (u .current) n) (headedCount p (u .current) n)
+    let p = paramsOf (u .variant) in moved u (absorbNext p d (u .current) n) (absorbSteps p (u .current) n)
 headerIn (Aad d) u n =
-    let p = paramsOf (u .variant) in moved u (headedNext p d (u .current) n) (headedCount p (u .current) n)
+    let p = paramsOf (u .variant) in moved u (absorbNext p d (u .current) n) (absorbSteps p (u .current) n)
 headerIn (Data d) u n = u
 headerIn (Final d) u n = u
 
@@ -199,26 +199,26 @@ headerShows (Err x) = outcome (Err x)
 headerShows (Ok k) = ok 0
 
 -- process_bytes
-abbrev pub begunNext : Phase → Public → Public
-begunNext Uninitialized u = u
-begunNext (Init d) u = moved u (record { phase = Data d; held = 0; size = 64 }) 0
-begunNext (Aad d) u = moved u (record { phase = Data d; held = 0; size = 64 }) (paramsOf (u .variant) .big)
-begunNext (Data d) u = u
-begunNext (Final d) u = u
+abbrev pub beginNext : Phase → Public → Public
+beginNext Uninitialized u = u
+beginNext (Init d) u = moved u (record { phase = Data d; held = 0; size = 64 }) 0
+beginNext (Aad d) u = moved u (record { phase = Data d; held = 0; size = 64 }) (paramsOf (u .variant) .big)
+beginNext (Data d) u = u
+beginNext (Final d) u = u
 
 abbrev pub dataIntake : Public → ℕ → Public
 dataIntake u n =
     let p = paramsOf (u .variant) in
     let k = keep p (u .current .phase) in
-    moved u (flowed p k (u .current .phase) (u .current) n) (ready (p .rate) k (heldSize p (u .current) + n) * p .slim)
+    moved u (flowed p k (u .current .phase) (u .current) n) (ready (p .rate) k (publicHeld p (u .current) + n) * p .slim)
 
 abbrev pub dataNext : AeadResult → Public → ℕ → Public
 dataNext (Err x) u n = u
-dataNext (Ok k) u n = dataIntake (begunNext (u .current .phase) u) n
+dataNext (Ok k) u n = dataIntake (beginNext (u .current .phase) u) n
 
 -- do_final
-abbrev pub endedNext : Public → Direction → Bool → ℕ → Public
-endedNext u d readable n =
+abbrev pub finalNext : Public → Direction → Bool → ℕ → Public
+finalNext u d readable n =
     record {
       variant = u .variant;
       current = outside (finalPoint d);
@@ -228,14 +228,14 @@ endedNext u d readable n =
     }
 
 abbrev pub endIn : Bool → Public → Bool → Public
-endIn false u right = endedNext u Encrypt true (heldSize (paramsOf (u .variant)) (u .current))
+endIn false u right = finalNext u Encrypt true (publicHeld (paramsOf (u .variant)) (u .current))
 endIn true u right =
     let p = paramsOf (u .variant) in
-    endedNext u Decrypt right (min (heldSize p (u .current) - p .key) (heldSize p (u .current)))
+    finalNext u Decrypt right (min (publicHeld p (u .current) - p .key) (publicHeld p (u .current)))
 
 abbrev pub endNext : AeadResult → Public → Bool → Public
 endNext (Err x) u right = u
-endNext (Ok n) u right = endIn (opening (u .current .phase)) (begunNext (u .current .phase) u) right
+endNext (Ok n) u right = endIn (opening (u .current .phase)) (beginNext (u .current .phase) u) right
 
 -- reset
 abbrev pub resetOutside : Phase → Outside → Outside
@@ -249,14 +249,14 @@ resetOutside (Final Decrypt) initial = initial
 
 -- The public state after a call, from the public state, the shape and the verdict.
 abbrev pub next : Public → Shape → Verdict → Public
-next u (Shape.start d key nonce size header) w =
+next u (Shape.Init d key nonce size header) w =
     startNext (startCheck (paramsOf (u .variant)) d key nonce size (yes w)) u d header
-next u (Shape.header n) w = headerNext (aadCheck (u .current .phase) n) u n
-next u (Shape.message n out) w =
+next u (Shape.Aad n) w = headerNext (aadCheck (u .current .phase) n) u n
+next u (Shape.Data n out) w =
     dataNext (dataCheck (paramsOf (u .variant)) (u .current .phase) (u .current .held) n out) u n
-next u (Shape.end out) w =
+next u (Shape.Final out) w =
     endNext (endCheck (paramsOf (u .variant)) (u .current .phase) (u .current .held) out) u (yes w)
-next u Shape.reset w =
+next u Shape.Reset w =
     record {
       variant = u .variant;
       current = resetOutside (u .current .phase) (u .initial);
@@ -264,23 +264,23 @@ next u Shape.reset w =
       steps = resetSteps (u .steps);
       readable = false;
     }
-next u Shape.tag w = u
-next u (Shape.update n) w = u
-next u (Shape.output n) w = u
+next u Shape.Mac w = u
+next u (Shape.Update n) w = u
+next u (Shape.Output n) w = u
 
 -- The outcome of a call.
 abbrev pub shows : Public → Shape → Verdict → Outcome
-shows u (Shape.start d key nonce size header) w =
+shows u (Shape.Init d key nonce size header) w =
     startOutcome (startCheck (paramsOf (u .variant)) d key nonce size (yes w))
-shows u (Shape.header n) w = headerShows (aadCheck (u .current .phase) n)
-shows u (Shape.message n out) w =
+shows u (Shape.Aad n) w = headerShows (aadCheck (u .current .phase) n)
+shows u (Shape.Data n out) w =
     outcome (dataCheck (paramsOf (u .variant)) (u .current .phase) (u .current .held) n out)
-shows u (Shape.end out) w =
+shows u (Shape.Final out) w =
     endOutcome (endCheck (paramsOf (u .variant)) (u .current .phase) (u .current .held) out) (opening (u .current .phase)) (yes w)
-shows u Shape.reset w = ok 0
-shows u Shape.tag w = ok (cond (u .readable) (paramsOf (u .variant) .key) 0)
-shows u (Shape.update n) w = outcome (updateLen (paramsOf (u .variant)) (u .current .phase) (u .current .held) n)
-shows u (Shape.output n) w = outcome (totalLen (paramsOf (u .variant)) (u .current .phase) (u .current .held) n)
+shows u Shape.Reset w = ok 0
+shows u Shape.Mac w = ok (cond (u .readable) (paramsOf (u .variant) .key) 0)
+shows u (Shape.Update n) w = outcome (updateLen (paramsOf (u .variant)) (u .current .phase) (u .current .held) n)
+shows u (Shape.Output n) w = outcome (totalLen (paramsOf (u .variant)) (u .current .phase) (u .current .held) n)
 
 -- The verdict, read off an outcome.
 abbrev pub isReuse : Outcome → Bool
@@ -293,16 +293,16 @@ isOk (ok n) = true
 isOk (no r) = false
 
 abbrev pub judged : Public → Shape → Outcome → Verdict
-judged u (Shape.start d key nonce size header) o =
+judged u (Shape.Init d key nonce size header) o =
     startNote (startCheck (paramsOf (u .variant)) d key nonce size (isReuse o)) d (isReuse o)
-judged u (Shape.header n) o = None
-judged u (Shape.message n out) o = None
-judged u (Shape.end out) o =
+judged u (Shape.Aad n) o = None
+judged u (Shape.Data n out) o = None
+judged u (Shape.Final out) o =
     endNote (endCheck (paramsOf (u .variant)) (u .current .phase) (u .current .held) out) (opening (u .current .phase)) (isOk o)
-judged u Shape.reset o = None
-judged u Shape.tag o = None
-judged u (Shape.update n) o = None
-judged u (Shape.output n) o = None
+judged u Shape.Reset o = None
+judged u Shape.Mac o = None
+judged u (Shape.Update n) o = None
+judged u (Shape.Output n) o = None
 
 -- ---- The engine's calls on the public state
 
@@ -356,8 +356,8 @@ end-verdict : (k : AeadResult) (u : Public) (right : Bool)
 end-verdict (Err x) u right = refl
 end-verdict (Ok n) u right = by (opening (u .current .phase)) right
   where
-    by : (o right : Bool) → endIn o (begunNext (u .current .phase) u) right
-        ≡ endIn o (begunNext (u .current .phase) u) (yes (cond o (verdictOf right) None))
+    by : (o right : Bool) → endIn o (beginNext (u .current .phase) u) right
+        ≡ endIn o (beginNext (u .current .phase) u) (yes (cond o (verdictOf right) None))
     by true true = refl
     by true false = refl
     by false right = refl
@@ -375,16 +375,16 @@ end-judged (Ok n) true false = refl
 end-judged (Ok n) false right = refl
 
 -- The parts of the calls.
-headed-public : (p : Params) (d : Direction) (at : Point) (header : List ℕ)
-    → outside (headed p d at header) ≡ headedNext p d (outside at) (length header)
-unfolding headed
-headed-public p d at [] = refl
-headed-public p d at (x ∷ header) = streamed-flowed p 0 _ (Aad d) at (x ∷ header)
+absorb-public : (p : Params) (d : Direction) (at : Point) (header : List ℕ)
+    → outside (absorbHeader p d at header) ≡ absorbNext p d (outside at) (length header)
+unfolding absorbHeader
+absorb-public p d at [] = refl
+absorb-public p d at (x ∷ header) = streamed-flowed p 0 _ (Aad d) at (x ∷ header)
 
-headedSteps-public : (p : Params) (at : Point) (header : List ℕ)
-    → headedSteps p at header ≡ headedCount p (outside at) (length header)
-unfolding headedSteps
-headedSteps-public p at header = rw (blocks-flowed p 0 at header)
+headerSteps-public : (p : Params) (at : Point) (header : List ℕ)
+    → headerSteps p at header ≡ absorbSteps p (outside at) (length header)
+unfolding headerSteps
+headerSteps-public p at header = rw (blockCount-flowed p 0 at header)
 
 startPoint-public : (p : Params) (d : Direction) (key nonce : List ℕ) → outside (startPoint p d key nonce) ≡ startOutside d
 unfolding startPoint zeros
@@ -396,13 +396,13 @@ unfolding started refused noMac
 start-public (StartErr x) e d key nonce header = refl
 start-public StartOk e d key nonce header =
     let p = paramsOf (e .variant) in
-    let at : outside (headed p d (startPoint p d key nonce) header) ≡ headedNext p d (startOutside d) (length header) =
-    headed-public p d (startPoint p d key nonce) header
-    ∙ ap (λ (q : Outside). headedNext p d q (length header)) (startPoint-public p d key nonce)
+    let at : outside (absorbHeader p d (startPoint p d key nonce) header) ≡ absorbNext p d (startOutside d) (length header) =
+    absorb-public p d (startPoint p d key nonce) header
+    ∙ ap (λ (q : Outside). absorbNext p d q (length header)) (startPoint-public p d key nonce)
     in
-    let n : headedSteps p (startPoint p d key nonce) header ≡ headedCount p (startOutside d) (length header) =
-    headedSteps-public p (startPoint p d key nonce) header
-    ∙ ap (λ (q : Outside). headedCount p q (length header)) (startPoint-public p d key nonce)
+    let n : headerSteps p (startPoint p d key nonce) header ≡ absorbSteps p (startOutside d) (length header) =
+    headerSteps-public p (startPoint p d key nonce) header
+    ∙ ap (λ (q : Outside). absorbSteps p q (length header)) (startPoint-public p d key nonce)
     in
     λ i.
     record {
@@ -417,11 +417,11 @@ aadIn-public : (phase : Phase) (e : SparkleEngine) (input : List ℕ)
     → publicOf (aadIn phase e input) ≡ headerIn phase (publicOf e) (length input)
 aadIn-public Uninitialized e input = refl
 aadIn-public (Init d) e input =
-    moved-public e _ _ _ _ (headed-public (paramsOf (e .variant)) d (e .current) input)
-    (headedSteps-public (paramsOf (e .variant)) (e .current) input)
+    moved-public e _ _ _ _ (absorb-public (paramsOf (e .variant)) d (e .current) input)
+    (headerSteps-public (paramsOf (e .variant)) (e .current) input)
 aadIn-public (Aad d) e input =
-    moved-public e _ _ _ _ (headed-public (paramsOf (e .variant)) d (e .current) input)
-    (headedSteps-public (paramsOf (e .variant)) (e .current) input)
+    moved-public e _ _ _ _ (absorb-public (paramsOf (e .variant)) d (e .current) input)
+    (headerSteps-public (paramsOf (e .variant)) (e .current) input)
 aadIn-public (Data d) e input = refl
 aadIn-public (Final d) e input = refl
 
@@ -436,17 +436,17 @@ header-shows (Err x) e input = refl
 header-shows (Ok n) e [] = refl
 header-shows (Ok n) e (x ∷ input) = refl
 
-begun-public : (phase : Phase) (e : SparkleEngine) → publicOf (beginBy phase e) ≡ begunNext phase (publicOf e)
+begin-public : (phase : Phase) (e : SparkleEngine) → publicOf (beginBy phase e) ≡ beginNext phase (publicOf e)
 unfolding zeros withoutHeader afterHeader
-begun-public Uninitialized e = refl
-begun-public (Init d) e = moved-public e _ _ _ _ refl refl
-begun-public (Aad d) e = moved-public e _ _ _ _ refl refl
-begun-public (Data d) e = refl
-begun-public (Final d) e = refl
+begin-public Uninitialized e = refl
+begin-public (Init d) e = moved-public e _ _ _ _ refl refl
+begin-public (Aad d) e = moved-public e _ _ _ _ refl refl
+begin-public (Data d) e = refl
+begin-public (Final d) e = refl
 
-beginData-public : (e : SparkleEngine) → publicOf (beginData e) ≡ begunNext (e .current .phase) (publicOf e)
+beginData-public : (e : SparkleEngine) → publicOf (beginData e) ≡ beginNext (e .current .phase) (publicOf e)
 unfolding beginData
-beginData-public e = begun-public (e .current .phase) e
+beginData-public e = begin-public (e .current .phase) e
 
 dataIn-public : (e : SparkleEngine) (input : List ℕ) → publicOf (dataIn e input) ≡ dataIntake (publicOf e) (length input)
 unfolding dataIn
@@ -454,7 +454,7 @@ dataIn-public e input =
     let p = paramsOf (e .variant) in
     let k = keep p (e .current .phase) in
     moved-public e _ _ _ _ (streamed-flowed p k _ (e .current .phase) (e .current) input)
-    (ap (λ (n : ℕ). n * p .slim) (blocks-flowed p k (e .current) input))
+    (ap (λ (n : ℕ). n * p .slim) (blockCount-flowed p k (e .current) input))
 
 data-public : (k : AeadResult) (e : SparkleEngine) (input : List ℕ)
     → publicOf (dataBy k e input .engine) ≡ dataNext k (publicOf e) (length input)
@@ -468,26 +468,26 @@ data-shows (Ok n) e input = refl
 
 length-openBlock : (e : SparkleEngine)
     → length (openBlock e)
-    ≡ min (heldSize (paramsOf (e .variant)) (outside (e .current)) - paramsOf (e .variant) .key)
-    (heldSize (paramsOf (e .variant)) (outside (e .current)))
+    ≡ min (publicHeld (paramsOf (e .variant)) (outside (e .current)) - paramsOf (e .variant) .key)
+    (publicHeld (paramsOf (e .variant)) (outside (e .current)))
 unfolding openBlock
-length-openBlock e = rw (length-take, length-heldBytes)
+length-openBlock e = rw (length-take, length-buffered)
 
 -- whether an engine's received tag is the one that it computes
 abbrev right : SparkleEngine → Bool
 right e = same (receivedTag e) (openTag e)
 
-openEnd-public : (b : Bool) (e : SparkleEngine) (n : ℕ)
-    → publicOf (openEndBy b e n .engine) ≡ endIn true (publicOf e) b
-unfolding ended lastSteps readable noMac
-openEnd-public true e n = rw (length-openBlock e)
-openEnd-public false e n = rw (length-openBlock e)
+openFinal-public : (b : Bool) (e : SparkleEngine) (n : ℕ)
+    → publicOf (openFinalBy b e n .engine) ≡ endIn true (publicOf e) b
+unfolding finalEngine lastSteps readable noMac
+openFinal-public true e n = rw (length-openBlock e)
+openFinal-public false e n = rw (length-openBlock e)
 
 endIn-public : (o : Bool) (e : SparkleEngine) (n : ℕ)
-    → publicOf (cond o (openEnd e n) (sealEnd e n) .engine) ≡ endIn o (publicOf e) (right e)
-unfolding openEnd sealEnd ended lastSteps readable
-endIn-public true e n = openEnd-public (right e) e n
-endIn-public false e n = rw (length-heldBytes (paramsOf (e .variant)) (e .current))
+    → publicOf (cond o (openFinal e n) (sealFinal e n) .engine) ≡ endIn o (publicOf e) (right e)
+unfolding openFinal sealFinal finalEngine lastSteps readable
+endIn-public true e n = openFinal-public (right e) e n
+endIn-public false e n = rw (length-buffered (paramsOf (e .variant)) (e .current))
 
 end-public : (k : AeadResult) (e : SparkleEngine)
     → publicOf (finalBy k e .engine) ≡ endNext k (publicOf e) (right (beginData e))
@@ -496,14 +496,14 @@ end-public (Ok n) e =
     endIn-public (opening (e .current .phase)) (beginData e) n
     ∙ ap (λ (u : Public). endIn (opening (e .current .phase)) u (right (beginData e))) (beginData-public e)
 
-openEnd-shows : (b : Bool) (e : SparkleEngine) (n : ℕ) → outcome (openEndBy b e n .answer) ≡ openOutcome b n
-openEnd-shows true e n = refl
-openEnd-shows false e n = refl
+openFinal-shows : (b : Bool) (e : SparkleEngine) (n : ℕ) → outcome (openFinalBy b e n .answer) ≡ openOutcome b n
+openFinal-shows true e n = refl
+openFinal-shows false e n = refl
 
 endIn-shows : (o : Bool) (e : SparkleEngine) (n : ℕ)
-    → outcome (cond o (openEnd e n) (sealEnd e n) .answer) ≡ endOutcome (Ok n) o (right e)
-unfolding openEnd sealEnd
-endIn-shows true e n = openEnd-shows (right e) e n
+    → outcome (cond o (openFinal e n) (sealFinal e n) .answer) ≡ endOutcome (Ok n) o (right e)
+unfolding openFinal sealFinal
+endIn-shows true e n = openFinal-shows (right e) e n
 endIn-shows false e n = refl
 
 end-shows : (k : AeadResult) (e : SparkleEngine)
@@ -520,7 +520,7 @@ resetPoint-public (Data Decrypt) at = refl
 resetPoint-public (Final Encrypt) at = refl
 resetPoint-public (Final Decrypt) at = refl
 
-reset-public : (e : SparkleEngine) → publicOf (resetEngine e) ≡ next (publicOf e) Shape.reset None
+reset-public : (e : SparkleEngine) → publicOf (resetEngine e) ≡ next (publicOf e) Shape.Reset None
 unfolding resetEngine noMac
 reset-public e = rw (resetPoint-public (e .current .phase) (e .initial))
 
@@ -541,55 +541,55 @@ mac-readable e = go (e .mac .readable) refl
 
 pub next-is : (e : SparkleEngine) (c : Call) → publicOf (step e c .engine) ≡ next (publicOf e) (shape c) (asked e c)
 unfolding step asked init processAadBytes processBytes doFinal
-next-is e (Call.start d key nonce size header) =
+next-is e (Call.Init d key nonce size header) =
     let p = paramsOf (e .variant) in
     let b = repeats p (e .pair) key nonce in
     start-public (startCheck p d (length key) (length nonce) size b) e d key nonce header
     ∙ ap (λ (k : AeadInitResult). startNext k (publicOf e) d (length header))
     (start-verdict p (length key) (length nonce) size d b)
-next-is e (Call.header input) = header-public (aadCheck (e .current .phase) (length input)) e input
-next-is e (Call.message input out) = data-public (dataAnswer e (length input) (length out)) e input
-next-is e (Call.end out) =
+next-is e (Call.Aad input) = header-public (aadCheck (e .current .phase) (length input)) e input
+next-is e (Call.Data input out) = data-public (dataAnswer e (length input) (length out)) e input
+next-is e (Call.Final out) =
     end-public (finalAnswer e (length out)) e
     ∙ end-verdict (finalAnswer e (length out)) (publicOf e) (right (beginData e))
-next-is e Call.reset = reset-public e
-next-is e Call.tag = refl
-next-is e (Call.update n) = refl
-next-is e (Call.output n) = refl
+next-is e Call.Reset = reset-public e
+next-is e Call.Mac = refl
+next-is e (Call.Update n) = refl
+next-is e (Call.Output n) = refl
 
 pub shows-is : (e : SparkleEngine) (c : Call) → step e c .outcome ≡ shows (publicOf e) (shape c) (asked e c)
 unfolding step asked init processAadBytes processBytes doFinal updateOutputLen outputLen
-shows-is e (Call.start d key nonce size header) =
+shows-is e (Call.Init d key nonce size header) =
     let p = paramsOf (e .variant) in
     let b = repeats p (e .pair) key nonce in
     start-shows (startCheck p d (length key) (length nonce) size b) e d key nonce header
     ∙ ap startOutcome (start-verdict p (length key) (length nonce) size d b)
-shows-is e (Call.header input) = header-shows (aadCheck (e .current .phase) (length input)) e input
-shows-is e (Call.message input out) = data-shows (dataAnswer e (length input) (length out)) e input
-shows-is e (Call.end out) =
+shows-is e (Call.Aad input) = header-shows (aadCheck (e .current .phase) (length input)) e input
+shows-is e (Call.Data input out) = data-shows (dataAnswer e (length input) (length out)) e input
+shows-is e (Call.Final out) =
     end-shows (finalAnswer e (length out)) e
     ∙ end-verdict-shows (finalAnswer e (length out)) (opening (e .current .phase)) (right (beginData e))
-shows-is e Call.reset = refl
-shows-is e Call.tag = rw (mac-readable e)
-shows-is e (Call.update n) = refl
-shows-is e (Call.output n) = refl
+shows-is e Call.Reset = refl
+shows-is e Call.Mac = rw (mac-readable e)
+shows-is e (Call.Update n) = refl
+shows-is e (Call.Output n) = refl
 
 pub judged-is : (e : SparkleEngine) (c : Call) → asked e c ≡ judged (publicOf e) (shape c) (step e c .outcome)
 unfolding step asked init doFinal
-judged-is e (Call.start d key nonce size header) =
+judged-is e (Call.Init d key nonce size header) =
     let p = paramsOf (e .variant) in
     let b = repeats p (e .pair) key nonce in
     rw (start-shows (startCheck p d (length key) (length nonce) size b) e d key nonce header)
     (start-judged p (length key) (length nonce) size d b)
-judged-is e (Call.header input) = refl
-judged-is e (Call.message input out) = refl
-judged-is e (Call.end out) =
+judged-is e (Call.Aad input) = refl
+judged-is e (Call.Data input out) = refl
+judged-is e (Call.Final out) =
     rw (end-shows (finalAnswer e (length out)) e)
     (end-judged (finalAnswer e (length out)) (opening (e .current .phase)) (right (beginData e)))
-judged-is e Call.reset = refl
-judged-is e Call.tag = refl
-judged-is e (Call.update n) = refl
-judged-is e (Call.output n) = refl
+judged-is e Call.Reset = refl
+judged-is e Call.Mac = refl
+judged-is e (Call.Update n) = refl
+judged-is e (Call.Output n) = refl
 
 -- The line of a call, from the public state, the shape and the verdict.
 abbrev pub lineBy : Public → Shape → Verdict → Line

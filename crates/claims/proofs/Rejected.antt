@@ -23,14 +23,14 @@ use Rattle.tc_aead_cipher.specs.declared.aead_init_error.AeadInitResult.{AeadIn
 use Rattle.tc_aead_cipher.specs.declared.aead_init_error.AeadInitResult.the-variants.{Ok as StartOk, Err as StartErr}
 use Rattle.tc_sparkle_aead.specs.declared.engine.SparkleEngine.{SparkleEngine}
 use Rattle.tc_aead_cipher.specs.Variant.{paramsOf}
-use Rattle.tc_aead_cipher.specs.Checks.{opening, keep, heldIn, within64, then, room, whole, updateLen, totalLen, aadCheck, dataCheck, endCheck, startCheck}
+use Rattle.tc_aead_cipher.specs.Checks.{opening, keep, heldData, within64, then, room, whole, updateLen, totalLen, aadCheck, dataCheck, endCheck, startCheck}
 use Rattle.tc_sparkle_aead.specs.Engine.{newEngine}
 use Rattle.tc_sparkle_aead.specs.Calls.{stepsNow}
 use Rattle.tc_aead_cipher.specs.Call.{Call}
 use Rattle.tc_aead_cipher.specs.Outcome.{outcome, startOutcome}
 use Rattle.tc_sparkle_aead.specs.Sheet.{step, Line, line}
 use Rattle.tc_aead_cipher.specs.Outcome.Outcome.{ok, no}
-use Rattle.claims.specs.Reader.{Reader, newReader, heldOf, repeated, read, notes, verdicts, reader, readFrom}
+use Rattle.claims.specs.Reader.{Reader, newReader, readerHeld, repeated, read, notes, verdicts, reader, readFrom}
 use Rattle.claims.specs.Reader.Verdict.{Yes, No}
 use Rattle.claims.specs.Messages.{endOutcome, answerOf}
 use Rattle.claims.specs.Refused.{lent}
@@ -47,7 +47,7 @@ abbrev ones16 : List ℕ
 ones16 = replicate 16 1
 
 abbrev begin : List ℕ → Call
-begin key = Call.start Encrypt key zeros16 16 []
+begin key = Call.Init Encrypt key zeros16 16 []
 
 -- A start with the right lengths is accepted, one with an empty key is not.
 begin-accepted : answerOf (paramsOf «Schwaemm128_128») (reader «Schwaemm128_128» []) (begin zeros16) ≡ ok 0
@@ -109,7 +109,7 @@ module _ (f : ℕ → Line) (write : ℕ → Call → List ℕ) where
 
 -- An end after a start writes the tag's 16 bytes.
 end-accepted : (out : List ℕ) → length out ≡ 16
-    → answerOf (paramsOf «Schwaemm128_128») (reader «Schwaemm128_128» (begin zeros16 ∷ [])) (Call.end out) ≡ ok 16
+    → answerOf (paramsOf «Schwaemm128_128») (reader «Schwaemm128_128» (begin zeros16 ∷ [])) (Call.Final out) ≡ ok 16
 unfolding answerOf reader readFrom read startCheck endCheck totalLen ready
 end-accepted out q = rw q
 
@@ -122,13 +122,13 @@ module _ (m : Machine) (untouches : (s : m .State) (c : Call) → m .step s c .b
       let a : m .step s (begin zeros16) .line .outcome ≡ ok 0 =
       demand .answers «Schwaemm128_128» [] (begin zeros16) (λ q. let z : _≡_ {A = ℕ} 0 1 = cc in omega arith) ∙ begin-accepted
       in
-      let b : m .step (m .step s (begin zeros16) .state) (Call.end out) .line .outcome ≡ ok 16 =
-      demand .answers «Schwaemm128_128» (begin zeros16 ∷ []) (Call.end out)
+      let b : m .step (m .step s (begin zeros16) .state) (Call.Final out) .line .outcome ≡ ok 16 =
+      demand .answers «Schwaemm128_128» (begin zeros16 ∷ []) (Call.Final out)
       (λ q. let z : _≡_ {A = ℕ} 0 1 = cc in omega arith)
       ∙ end-accepted out q
       in
-      let bytes : bytesOf m s (begin zeros16 ∷ (Call.end out ∷ [])) ≡ take 16 out ++ [] =
-      rw (a, b, untouches (m .step s (begin zeros16) .state) (Call.end out))
+      let bytes : bytesOf m s (begin zeros16 ∷ (Call.Final out ∷ [])) ≡ take 16 out ++ [] =
+      rw (a, b, untouches (m .step s (begin zeros16) .state) (Call.Final out))
       in
       sym (append-nil (take 16 out)) ∙ sym bytes
       ∙ demand .seals «Schwaemm128_128» zeros16 zeros16 [] 16 [] out (more 0 a (more 16 b none))
@@ -144,10 +144,10 @@ untouched-engine-fails-2 demand = untouched-fails-2 untouched (λ s c. refl) dem
 -- ---- One sealing the first data call and skipping later ones
 
 abbrev byte : Call
-byte = Call.message (0 ∷ []) []
+byte = Call.Data (0 ∷ []) []
 
 abbrev last : Call
-last = Call.end (replicate 18 0)
+last = Call.Final (replicate 18 0)
 
 byte-accepted : answerOf (paramsOf «Schwaemm128_128») (reader «Schwaemm128_128» (begin zeros16 ∷ [])) byte ≡ ok 0
 unfolding answerOf reader readFrom read startCheck dataCheck updateLen ready
@@ -165,9 +165,9 @@ last-of-two = refl
 -- Every machine on which a data call after an accepted one leaves no trace fails demand 2.
 module _ (m : Machine)
     (skips : (s : m .State) (input out input' out' : List ℕ) (n : ℕ)
-    → m .step s (Call.message input out) .line .outcome ≡ ok n
-    → m .step (m .step s (Call.message input out) .state) (Call.message input' out') .state
-    ≡ m .step s (Call.message input out) .state)
+    → m .step s (Call.Data input out) .line .outcome ≡ ok n
+    → m .step (m .step s (Call.Data input out) .state) (Call.Data input' out') .state
+    ≡ m .step s (Call.Data input out) .state)
     (demand : Demand2 m)
   where
     pub skipping-fails-2 : ⊥
@@ -192,9 +192,9 @@ module _ (m : Machine)
         omega arith
 
 skipping-skips : (b : Bool) (e : SparkleEngine) (input out input' out' : List ℕ) (n : ℕ)
-    → skipStep b e (Call.message input out) .line .outcome ≡ ok n
-    → skipping .step (skipStep b e (Call.message input out) .state) (Call.message input' out') .state
-    ≡ skipStep b e (Call.message input out) .state
+    → skipStep b e (Call.Data input out) .line .outcome ≡ ok n
+    → skipping .step (skipStep b e (Call.Data input out) .state) (Call.Data input' out') .state
+    ≡ skipStep b e (Call.Data input out) .state
 unfolding line
 skipping-skips true e input out input' out' n q = refl
 skipping-skips false e input out input' out' n q = rw (ap accepted q)
@@ -207,7 +207,7 @@ skipping-engine-fails-2 demand =
 -- ---- One inventing steps
 
 -- a mac call of a new engine leaves 0 steps, a start without header 10
-tag-steps : counts (paramsOf «Schwaemm128_128») newReader 0 (Call.tag ∷ []) ≡ 0 ∷ []
+tag-steps : counts (paramsOf «Schwaemm128_128») newReader 0 (Call.Mac ∷ []) ≡ 0 ∷ []
 unfolding counts read
 tag-steps = refl
 
@@ -217,8 +217,8 @@ begin-steps = refl
 
 pub inventing-fails-2 : (k : ℕ) → Demand2 (inventing k) → ⊥
 inventing-fails-2 k demand =
-    let w = demand .counted «Schwaemm128_128» (Call.tag ∷ []) ∙ tag-steps in
-    let z : stepsNow (step (newEngine «Schwaemm128_128») Call.tag .engine) + suc k ≡ 0 = cc in
+    let w = demand .counted «Schwaemm128_128» (Call.Mac ∷ []) ∙ tag-steps in
+    let z : stepsNow (step (newEngine «Schwaemm128_128») Call.Mac .engine) + suc k ≡ 0 = cc in
     omega arith
 
 -- Every machine with the same count on each line fails too.
@@ -226,11 +226,11 @@ pub constant-steps-fail-2 : (m : Machine) (n : ℕ) → ((s : m .State) (c : Cal
     → Demand2 m → ⊥
 constant-steps-fail-2 m n constant demand =
     let s = m .new «Schwaemm128_128» in
-    let a = demand .counted «Schwaemm128_128» (Call.tag ∷ []) ∙ tag-steps in
+    let a = demand .counted «Schwaemm128_128» (Call.Mac ∷ []) ∙ tag-steps in
     let b = demand .counted «Schwaemm128_128» (begin zeros16 ∷ []) ∙ begin-steps in
-    let x : m .step s Call.tag .line .steps ≡ 0 = cc in
+    let x : m .step s Call.Mac .line .steps ≡ 0 = cc in
     let y : m .step s (begin zeros16) .line .steps ≡ 10 = cc in
-    omega (arith, constant s Call.tag, constant s (begin zeros16))
+    omega (arith, constant s Call.Mac, constant s (begin zeros16))
 
 -- ---- One saying AlreadyFinalized outside Final
 
@@ -264,13 +264,13 @@ within-not sum n =
 update-not : (p : Params) (phase : Phase) (held n : ℕ) → NotTen (updateLen p phase held n)
 unfolding updateLen
 update-not p phase held n =
-    within-not (heldIn p phase held + n) (ready (p .rate) (keep p phase) (heldIn p phase held + n) * p .rate)
+    within-not (heldData p phase held + n) (ready (p .rate) (keep p phase) (heldData p phase held + n) * p .rate)
 
 total-not : (p : Params) (phase : Phase) (held n : ℕ) → NotTen (totalLen p phase held n)
 unfolding totalLen
 total-not p phase held n =
-    cond-not (opening phase) (within-not (heldIn p phase held + n) (heldIn p phase held + n - p .key))
-    (within-not (heldIn p phase held + n + p .key) (heldIn p phase held + n + p .key))
+    cond-not (opening phase) (within-not (heldData p phase held + n) (heldData p phase held + n - p .key))
+    (within-not (heldData p phase held + n + p .key) (heldData p phase held + n + p .key))
 
 room-not : (available required : ℕ) → NotTen (room available required)
 room-not available required =
@@ -279,7 +279,7 @@ room-not available required =
 whole-not : (p : Params) (phase : Phase) (held n : ℕ) → NotTen (whole p phase held n)
 whole-not p phase held n =
     cond-not (opening phase)
-    (cond-not (ltb (heldIn p phase held) (p .key)) (record { never = λ values q. let z : _≡_ {A = ℕ} 5 10 = cc in omega arith }) (ok-not n)) (ok-not n)
+    (cond-not (ltb (heldData p phase held) (p .key)) (record { never = λ values q. let z : _≡_ {A = ℕ} 5 10 = cc in omega arith }) (ok-not n)) (ok-not n)
 
 start-not : (k : AeadInitResult) (values : List ℕ) → startOutcome k ≡ no (10 ∷ values) → ⊥
 start-not StartOk values q = let z : _≡_ {A = ℕ} 0 1 = cc in omega arith
@@ -341,22 +341,22 @@ end-ten p (Final d) held available opens right values q = (d, refl)
 pub ten-only-in-final : (p : Params) (r : Reader) (c : Call) (values : List ℕ) → answerOf p r c ≡ no (10 ∷ values)
     → (d : Direction) × (r .phase ≡ Final d)
 unfolding answerOf
-ten-only-in-final p r (Call.start d key nonce size header) values q =
+ten-only-in-final p r (Call.Init d key nonce size header) values q =
     absurd (start-not (startCheck p d (length key) (length nonce) size (repeated r key nonce)) values q)
-ten-only-in-final p r (Call.header input) values q = header-ten (r .phase) (length input) values q
-ten-only-in-final p r (Call.message input out) values q =
-    data-ten p (r .phase) (heldOf p r) (length input) (length out) values q
-ten-only-in-final p r (Call.end out) values q =
-    end-ten p (r .phase) (heldOf p r) (length out) (opening (r .phase))
+ten-only-in-final p r (Call.Aad input) values q = header-ten (r .phase) (length input) values q
+ten-only-in-final p r (Call.Data input out) values q =
+    data-ten p (r .phase) (readerHeld p r) (length input) (length out) values q
+ten-only-in-final p r (Call.Final out) values q =
+    end-ten p (r .phase) (readerHeld p r) (length out) (opening (r .phase))
     (verified p (r .key) (r .nonce) (r .header) (r .body)) values q
-ten-only-in-final p r Call.reset values q = absurd (ok-not 0 .never values q)
-ten-only-in-final p r Call.tag values q = absurd (ok-not 0 .never values q)
-ten-only-in-final p r (Call.update n) values q = absurd (update-not p (r .phase) (heldOf p r) n .never values q)
-ten-only-in-final p r (Call.output n) values q = absurd (total-not p (r .phase) (heldOf p r) n .never values q)
+ten-only-in-final p r Call.Reset values q = absurd (ok-not 0 .never values q)
+ten-only-in-final p r Call.Mac values q = absurd (ok-not 0 .never values q)
+ten-only-in-final p r (Call.Update n) values q = absurd (update-not p (r .phase) (readerHeld p r) n .never values q)
+ten-only-in-final p r (Call.Output n) values q = absurd (total-not p (r .phase) (readerHeld p r) n .never values q)
 
 -- Every machine that answers 10 where the reader is not in Final fails demand 2.
 pub finalized-outside-fails-2 : (m : Machine) (v : SparkleVariant) (before : List Call) (c : Call) (values : List ℕ)
-    → (c ≡ Call.tag → ⊥) → ((d : Direction) → reader v before .phase ≡ Final d → ⊥)
+    → (c ≡ Call.Mac → ⊥) → ((d : Direction) → reader v before .phase ≡ Final d → ⊥)
     → m .step (after m (m .new v) before) c .line .outcome ≡ no (10 ∷ values) → Demand2 m → ⊥
 finalized-outside-fails-2 m v before c values other outside says demand =
     let t = ten-only-in-final (paramsOf v) (reader v before) c values (sym (demand .answers v before c other) ∙ says) in

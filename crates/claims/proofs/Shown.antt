@@ -23,7 +23,7 @@ use Rattle.tc_sparkle_aead.specs.Calls.{dataIn, dataBy, dataAnswer, processByte
 use Rattle.tc_sparkle_aead.specs.Calls.{reset as resetEngine}
 use Rattle.tc_aead_cipher.specs.Call.{Call}
 use Rattle.tc_sparkle_aead.specs.Sheet.{step, Line, line, lines, sheet}
-use Rattle.claims.specs.Reader.{Reader, newReader, heldOf, read}
+use Rattle.claims.specs.Reader.{Reader, newReader, readerHeld, read}
 use Rattle.claims.specs.Messages.{shownByEnd, shownAfter, shownTags}
 use Rattle.claims.specs.Machine.{engine, sheetOf}
 use Rattle.claims.proofs.Kept.{Follows, engineOf, follows-new}
@@ -72,13 +72,13 @@ start-drops-by StartOk e d key nonce header = refl
 start-drops-by (StartErr x) e d key nonce header = refl
 
 pub start-drops : (e : SparkleEngine) (d : Direction) (key nonce : List ℕ) (size : ℕ) (header : List ℕ)
-    → macOf (step e (Call.start d key nonce size header) .engine) ≡ noMac
+    → macOf (step e (Call.Init d key nonce size header) .engine) ≡ noMac
 unfolding step init
 start-drops e d key nonce size header =
     start-drops-by (startCheck (paramsOf (e .variant)) d (length key) (length nonce) size
     (repeats (paramsOf (e .variant)) (e .pair) key nonce)) e d key nonce header
 
-pub reset-drops : (e : SparkleEngine) → macOf (step e Call.reset .engine) ≡ noMac
+pub reset-drops : (e : SparkleEngine) → macOf (step e Call.Reset .engine) ≡ noMac
 unfolding step resetEngine macOf noMac
 reset-drops e = refl
 
@@ -98,14 +98,14 @@ end-shows true right before n = refl
 end-shows false right before n = refl
 
 module _ (v : SparkleVariant) (e : SparkleEngine) (r : Reader) (w : Follows v e r) where
-  end-step : (out : List ℕ) → macOf (step e (Call.end out) .engine) .readable
-      ≡ shownAfter (paramsOf v) r (macOf e .readable) (Call.end out)
+  end-step : (out : List ℕ) → macOf (step e (Call.Final out) .engine) .readable
+      ≡ shownAfter (paramsOf v) r (macOf e .readable) (Call.Final out)
   unfolding shownAfter
-  end-step out = by (endCheck (paramsOf v) (r .phase) (heldOf (paramsOf v) r) (length out)) refl
+  end-step out = by (endCheck (paramsOf v) (r .phase) (readerHeld (paramsOf v) r) (length out)) refl
     where
-      by : (k : AeadResult) → endCheck (paramsOf v) (r .phase) (heldOf (paramsOf v) r) (length out) ≡ k
-          → macOf (step e (Call.end out) .engine) .readable
-          ≡ shownAfter (paramsOf v) r (macOf e .readable) (Call.end out)
+      by : (k : AeadResult) → endCheck (paramsOf v) (r .phase) (readerHeld (paramsOf v) r) (length out) ≡ k
+          → macOf (step e (Call.Final out) .engine) .readable
+          ≡ shownAfter (paramsOf v) r (macOf e .readable) (Call.Final out)
       by (Err x) q =
           unfold step in unfold doFinal in
           let E = engineOf v r (w .mac) (w .count) in
@@ -125,18 +125,18 @@ module _ (v : SparkleVariant) (e : SparkleEngine) (r : Reader) (w : Follows v e 
 
   shown-step : (c : Call) → macOf (step e c .engine) .readable ≡ shownAfter (paramsOf v) r (macOf e .readable) c
   unfolding shownAfter
-  shown-step (Call.start d key nonce size h) = dropped _ (start-drops e d key nonce size h)
-  shown-step (Call.header input) =
+  shown-step (Call.Init d key nonce size h) = dropped _ (start-drops e d key nonce size h)
+  shown-step (Call.Aad input) =
       unfold step in unfold processAadBytes in
       same-tag e _ (header-keeps (aadCheck (e .current .phase) (length input)) e input)
-  shown-step (Call.message input out) =
+  shown-step (Call.Data input out) =
       unfold step in unfold processBytes in
       same-tag e _ (message-keeps (dataAnswer e (length input) (length out)) e input)
-  shown-step (Call.end out) = end-step out
-  shown-step Call.reset = dropped _ (reset-drops e)
-  shown-step Call.tag = unfold step in refl
-  shown-step (Call.update n) = unfold step in refl
-  shown-step (Call.output n) = unfold step in refl
+  shown-step (Call.Final out) = end-step out
+  shown-step Call.Reset = dropped _ (reset-drops e)
+  shown-step Call.Mac = unfold step in refl
+  shown-step (Call.Update n) = unfold step in refl
+  shown-step (Call.Output n) = unfold step in refl
 
 -- ---- Every list of calls.
 

@@ -23,7 +23,7 @@ use Rattle.tc_sparkle_aead.specs.Engine.{newEngine}
 use Rattle.tc_aead_cipher.specs.Call.{Call}
 use Rattle.tc_sparkle_aead.specs.Sheet.{step, runFrom, run}
 use Rattle.tc_aead_cipher.specs.Outcome.{Outcome}
-use Rattle.claims.specs.Reader.{Reader, newReader, heldOf, headerPhase, repeated, aadPhase, dataPhase, readStart}
+use Rattle.claims.specs.Reader.{Reader, newReader, readerHeld, headerPhase, repeated, aadPhase, dataPhase, readStart}
 use Rattle.claims.specs.Reader.{readHeader, readMessage, endBy, endIn, readEnd, resetIn, read, readFrom, reader}
 use Rattle.claims.specs.Messages.{countOf, wrote, handedBy, handed, UnderWay, released, finishedBytes}
 use Rattle.claims.proofs.Kept.{Follows, follows-new}
@@ -94,35 +94,35 @@ module _ (v : SparkleVariant) where
       → (UnderWay (r .phase) → before ≡ released (paramsOf v) r) → UnderWay (read (paramsOf v) r c .reader .phase)
       → handedBy c before (wrote (step e c)) ≡ released (paramsOf v) (read (paramsOf v) r c .reader)
   unfolding read
-  so-far-step e r w (Call.start d key nonce size h) before was u =
+  so-far-step e r w (Call.Init d key nonce size h) before was u =
       start-nothing (startCheck (paramsOf v) d (length key) (length nonce) size (repeated r key nonce)) (paramsOf v) r d key nonce h u
-  so-far-step e r w (Call.header input) before was u =
-      ap (λ (l : List ℕ). l ++ wrote (step e (Call.header input)))
+  so-far-step e r w (Call.Aad input) before was u =
+      ap (λ (l : List ℕ). l ++ wrote (step e (Call.Aad input)))
       (was (header-under (aadCheck (r .phase) (length input)) r input u))
-      ∙ sym (released-step v e r w (Call.header input) tt)
-  so-far-step e r w (Call.message input out) before was u =
-      ap (λ (l : List ℕ). l ++ wrote (step e (Call.message input out)))
-      (was (message-under (dataCheck (paramsOf v) (r .phase) (heldOf (paramsOf v) r) (length input) (length out)) r input u))
-      ∙ sym (released-step v e r w (Call.message input out) tt)
-  so-far-step e r w (Call.end out) before was u =
-      by (endCheck (paramsOf v) (r .phase) (heldOf (paramsOf v) r) (length out)) refl
+      ∙ sym (released-step v e r w (Call.Aad input) tt)
+  so-far-step e r w (Call.Data input out) before was u =
+      ap (λ (l : List ℕ). l ++ wrote (step e (Call.Data input out)))
+      (was (message-under (dataCheck (paramsOf v) (r .phase) (readerHeld (paramsOf v) r) (length input) (length out)) r input u))
+      ∙ sym (released-step v e r w (Call.Data input out) tt)
+  so-far-step e r w (Call.Final out) before was u =
+      by (endCheck (paramsOf v) (r .phase) (readerHeld (paramsOf v) r) (length out)) refl
     where
-      by : (k : AeadResult) → endCheck (paramsOf v) (r .phase) (heldOf (paramsOf v) r) (length out) ≡ k
-          → before ++ wrote (step e (Call.end out)) ≡ released (paramsOf v) (read (paramsOf v) r (Call.end out) .reader)
+      by : (k : AeadResult) → endCheck (paramsOf v) (r .phase) (readerHeld (paramsOf v) r) (length out) ≡ k
+          → before ++ wrote (step e (Call.Final out)) ≡ released (paramsOf v) (read (paramsOf v) r (Call.Final out) .reader)
       by (Ok n) q =
           absurd (ended-over (r .phase) (paramsOf v) r refl
           (subst (λ (k : AeadResult). UnderWay (readEnd k (paramsOf v) r .reader .phase)) q u))
       by (Err x) q =
-          sym (unwritten before _ (wrote-refused (step e (Call.end out)) (refusal x) (end-refused v e r w out x q)))
+          sym (unwritten before _ (wrote-refused (step e (Call.Final out)) (refusal x) (end-refused v e r w out x q)))
           ∙ was (subst (λ (k : AeadResult). UnderWay (readEnd k (paramsOf v) r .reader .phase)) q u)
           ∙ sym (ap (λ (k : AeadResult). released (paramsOf v) (readEnd k (paramsOf v) r .reader)) q)
-  so-far-step e r w Call.reset before was u = reset-nothing (r .phase) (paramsOf v) r refl u
-  so-far-step e r w Call.tag before was u =
-      ap (λ (l : List ℕ). l ++ wrote (step e Call.tag)) (was u) ∙ sym (released-step v e r w Call.tag tt)
-  so-far-step e r w (Call.update n) before was u =
-      ap (λ (l : List ℕ). l ++ wrote (step e (Call.update n))) (was u) ∙ sym (released-step v e r w (Call.update n) tt)
-  so-far-step e r w (Call.output n) before was u =
-      ap (λ (l : List ℕ). l ++ wrote (step e (Call.output n))) (was u) ∙ sym (released-step v e r w (Call.output n) tt)
+  so-far-step e r w Call.Reset before was u = reset-nothing (r .phase) (paramsOf v) r refl u
+  so-far-step e r w Call.Mac before was u =
+      ap (λ (l : List ℕ). l ++ wrote (step e Call.Mac)) (was u) ∙ sym (released-step v e r w Call.Mac tt)
+  so-far-step e r w (Call.Update n) before was u =
+      ap (λ (l : List ℕ). l ++ wrote (step e (Call.Update n))) (was u) ∙ sym (released-step v e r w (Call.Update n) tt)
+  so-far-step e r w (Call.Output n) before was u =
+      ap (λ (l : List ℕ). l ++ wrote (step e (Call.Output n))) (was u) ∙ sym (released-step v e r w (Call.Output n) tt)
 
   so-far-from : (e : SparkleEngine) (r : Reader) → Follows v e r → (calls : List Call) (before : List ℕ)
       → (UnderWay (r .phase) → before ≡ released (paramsOf v) r) → UnderWay (readFrom (paramsOf v) r calls .phase)
@@ -155,13 +155,13 @@ end-under p (Data d) held a n e = tt
 end-under p (Final d) held a n e = absurd (let z : _≡_ {A = ℕ} 0 1 = cc in omega arith)
 
 pub finished : (v : SparkleVariant) (calls : List Call) (out : List ℕ) (n : ℕ)
-    → step (run v calls) (Call.end out) .outcome ≡ Outcome.ok n
-    → handed (newEngine v) [] (calls ++ (Call.end out ∷ [])) ≡ finishedBytes (paramsOf v) (reader v calls)
+    → step (run v calls) (Call.Final out) .outcome ≡ Outcome.ok n
+    → handed (newEngine v) [] (calls ++ (Call.Final out ∷ [])) ≡ finishedBytes (paramsOf v) (reader v calls)
 unfolding handed wrote run
 finished v calls out n o =
     let e = runFrom (newEngine v) calls in
     let u = end-under (paramsOf v) _ _ _ n (passed v calls out n o .0) in
-    handed-append (newEngine v) [] calls (Call.end out ∷ [])
-    ∙ ap (λ (l : List ℕ). l ++ take (countOf (step e (Call.end out) .outcome)) (step e (Call.end out) .buffer)) (so-far v calls u)
-    ∙ ap (λ (x : Outcome). released (paramsOf v) (reader v calls) ++ take (countOf x) (step e (Call.end out) .buffer)) o
+    handed-append (newEngine v) [] calls (Call.Final out ∷ [])
+    ∙ ap (λ (l : List ℕ). l ++ take (countOf (step e (Call.Final out) .outcome)) (step e (Call.Final out) .buffer)) (so-far v calls u)
+    ∙ ap (λ (x : Outcome). released (paramsOf v) (reader v calls) ++ take (countOf x) (step e (Call.Final out) .buffer)) o
     ∙ sym (end-bytes v calls out n o .bytes)

@@ -28,16 +28,16 @@ use Rattle.tc_sparkle_aead.specs.Engine.{repeats}
 use Rattle.tc_sparkle_aead.specs.Calls.{plainOf, initBy, init, aadBy, processAadBytes}
 use Rattle.tc_aead_cipher.proofs.VariantLaws.{sizes, small}
 use Rattle.tc_aead_cipher.specs.Call.{Call}
-use Rattle.tc_sparkle_aead.specs.Sheet.{Left, step, runFrom, run}
+use Rattle.tc_sparkle_aead.specs.Sheet.{StepResult, step, runFrom, run}
 use Rattle.tc_aead_cipher.specs.Outcome.{Outcome, outcome, startOutcome}
-use Rattle.claims.specs.Reader.{Reader, heldOf, headerPhase, repeated, aadPhase, dataPhase, readHeader, readMessage}
+use Rattle.claims.specs.Reader.{Reader, readerHeld, headerPhase, repeated, aadPhase, dataPhase, readHeader, readMessage}
 use Rattle.claims.specs.Reader.{readStart, readEnd, read, readFrom, reader}
 use Rattle.claims.specs.Messages.{released, Writes, countOf, wrote, outputs, headerIn, dataOf, RefusedByCheck, Between}
-use Rattle.claims.specs.Messages.{AllBetween, ifOk, takenHeader, takenData, begunEngine, OpenedUnrefused}
+use Rattle.claims.specs.Messages.{AllBetween, ifOk, acceptedHeader, acceptedData, startedEngine, OpenedUnrefused}
 use Rattle.claims.proofs.Points.{ready-zero}
 use Rattle.claims.proofs.Kept.{Follows, Standing, pairIn, engineOf, repeats-agree}
-use Rattle.claims.proofs.Follows.{Takes, kept, follows-step, follows-from, follows-run, aad-some, header-answer}
-use Rattle.claims.proofs.Accepted.{takes-opening}
+use Rattle.claims.proofs.Follows.{Active, kept, follows-step, follows-from, follows-run, aad-some, header-answer}
+use Rattle.claims.proofs.Accepted.{active-opening}
 use Rattle.claims.proofs.Written.{message-outcome, message-writes-next, seal-end, open-end, end-refused}
 
 -- ---- The bytes of a list of calls
@@ -58,13 +58,13 @@ not-passed true n o e f = let h = f .1 in let z : _≡_ {A = ℕ} 0 1 = cc in om
 not-passed false n o e f = let h = f .1 in f .2 (cc)
 
 pub end-unread : (v : SparkleVariant) (e : SparkleEngine) (r : Reader) → Follows v e r → (out : List ℕ)
-    → RefusedByCheck (step e (Call.end out) .outcome) → read (paramsOf v) r (Call.end out) .reader ≡ r
+    → RefusedByCheck (step e (Call.Final out) .outcome) → read (paramsOf v) r (Call.Final out) .reader ≡ r
 unfolding read
 end-unread v e r w out f =
-    by (endCheck (paramsOf v) (r .phase) (heldOf (paramsOf v) r) (length out)) refl (opening (r .phase)) refl
+    by (endCheck (paramsOf v) (r .phase) (readerHeld (paramsOf v) r) (length out)) refl (opening (r .phase)) refl
   where
-    by : (k : AeadResult) → endCheck (paramsOf v) (r .phase) (heldOf (paramsOf v) r) (length out) ≡ k
-        → (o : Bool) → opening (r .phase) ≡ o → read (paramsOf v) r (Call.end out) .reader ≡ r
+    by : (k : AeadResult) → endCheck (paramsOf v) (r .phase) (readerHeld (paramsOf v) r) (length out) ≡ k
+        → (o : Bool) → opening (r .phase) ≡ o → read (paramsOf v) r (Call.Final out) .reader ≡ r
     by (Err x) q o is = ap (λ (k : AeadResult). readEnd k (paramsOf v) r .reader) q
     by (Ok n) q true is =
         absurd (not-passed (verified (paramsOf v) (r .key) (r .nonce) (r .header) (r .body)) n _
@@ -73,20 +73,20 @@ end-unread v e r w out f =
 
 -- a message is going on, in a direction, under a key and a nonce
 pub record Going (d : Direction) (key nonce : List ℕ) (r : Reader) : Type 0 where
-  pub takes : Takes d (r .phase)
+  pub takes : Active d (r .phase)
   pub key-is : r .key ≡ key
   pub nonce-is : r .nonce ≡ nonce
 
-takes-header : {d : Direction} {phase : Phase} → Takes d phase → (input : List ℕ) → Takes d (aadPhase phase input)
+takes-header : {d : Direction} {phase : Phase} → Active d phase → (input : List ℕ) → Active d (aadPhase phase input)
 takes-header t [] = t
-takes-header Takes.takes-init (x ∷ input) = Takes.takes-aad
-takes-header Takes.takes-aad (x ∷ input) = Takes.takes-aad
-takes-header Takes.takes-data (x ∷ input) = Takes.takes-data
+takes-header Active.in-init (x ∷ input) = Active.in-aad
+takes-header Active.in-aad (x ∷ input) = Active.in-aad
+takes-header Active.in-data (x ∷ input) = Active.in-data
 
-pub takes-message : {d : Direction} {phase : Phase} → Takes d phase → Takes d (dataPhase phase)
-takes-message Takes.takes-init = Takes.takes-data
-takes-message Takes.takes-aad = Takes.takes-data
-takes-message Takes.takes-data = Takes.takes-data
+pub active-message : {d : Direction} {phase : Phase} → Active d phase → Active d (dataPhase phase)
+active-message Active.in-init = Active.in-data
+active-message Active.in-aad = Active.in-data
+active-message Active.in-data = Active.in-data
 
 module _ (d : Direction) (key nonce : List ℕ) where
   going-header : (r : Reader) (input : List ℕ) (k : AeadResult) → Going d key nonce r
@@ -97,21 +97,21 @@ module _ (d : Direction) (key nonce : List ℕ) where
 
   going-message : (r : Reader) (input : List ℕ) (k : AeadResult) → Going d key nonce r
       → Going d key nonce (readMessage k r input .reader)
-  going-message r input (Ok n) g = record { takes = takes-message (g .takes); key-is = g .key-is; nonce-is = g .nonce-is }
+  going-message r input (Ok n) g = record { takes = active-message (g .takes); key-is = g .key-is; nonce-is = g .nonce-is }
   going-message r input (Err x) g = g
 
   pub going-step : (v : SparkleVariant) (e : SparkleEngine) (r : Reader) → Follows v e r → (c : Call) → Between e c
       → Going d key nonce r → Going d key nonce (read (paramsOf v) r c .reader)
   unfolding read
-  going-step v e r w (Call.start d' k n size h) b g = absurd b
-  going-step v e r w (Call.header input) b g = going-header r input (aadCheck (r .phase) (length input)) g
-  going-step v e r w (Call.message input out) b g =
-      going-message r input (dataCheck (paramsOf v) (r .phase) (heldOf (paramsOf v) r) (length input) (length out)) g
-  going-step v e r w (Call.end out) b g = subst (Going d key nonce) (sym (end-unread v e r w out b)) g
-  going-step v e r w Call.reset b g = absurd b
-  going-step v e r w Call.tag b g = g
-  going-step v e r w (Call.update n) b g = g
-  going-step v e r w (Call.output n) b g = g
+  going-step v e r w (Call.Init d' k n size h) b g = absurd b
+  going-step v e r w (Call.Aad input) b g = going-header r input (aadCheck (r .phase) (length input)) g
+  going-step v e r w (Call.Data input out) b g =
+      going-message r input (dataCheck (paramsOf v) (r .phase) (readerHeld (paramsOf v) r) (length input) (length out)) g
+  going-step v e r w (Call.Final out) b g = subst (Going d key nonce) (sym (end-unread v e r w out b)) g
+  going-step v e r w Call.Reset b g = absurd b
+  going-step v e r w Call.Mac b g = g
+  going-step v e r w (Call.Update n) b g = g
+  going-step v e r w (Call.Output n) b g = g
 
   pub going-from : (v : SparkleVariant) (e : SparkleEngine) (r : Reader) → Follows v e r → (calls : List Call) → AllBetween e calls
       → Going d key nonce r → Going d key nonce (readFrom (paramsOf v) r calls)
@@ -131,11 +131,11 @@ released-none p loaded key nonce initial phase header body e =
     (ready-zero (p .rate) (keep p phase))
 
 -- nothing comes of calls without a buffer
-wrote-none : (l : Left) → l .buffer ≡ [] → wrote l ≡ []
+wrote-none : (l : StepResult) → l .buffer ≡ [] → wrote l ≡ []
 unfolding wrote
 wrote-none l e = ap (take (countOf (l .outcome))) e ∙ take-nil (countOf (l .outcome))
 
-pub wrote-refused : (l : Left) (values : List ℕ) → l .outcome ≡ Outcome.no values → wrote l ≡ []
+pub wrote-refused : (l : StepResult) (values : List ℕ) → l .outcome ≡ Outcome.no values → wrote l ≡ []
 unfolding wrote
 wrote-refused l values o = ap (λ (x : Outcome). take (countOf x) (l .buffer)) o
 
@@ -158,7 +158,7 @@ released-more p (Data d) loaded key nonce initial header body mac n st x input =
 released-more p (Final d) loaded key nonce initial header body mac n st x input = refl
 
 released-header : (v : SparkleVariant) (e : SparkleEngine) (r : Reader) → Follows v e r → (input : List ℕ)
-    → released (paramsOf v) (read (paramsOf v) r (Call.header input) .reader) ≡ released (paramsOf v) r
+    → released (paramsOf v) (read (paramsOf v) r (Call.Aad input) .reader) ≡ released (paramsOf v) r
 unfolding read aadCheck
 released-header v e r w [] =
     ap (λ (l : List ℕ). released (paramsOf v) (kept (r .loaded) (r .key) (r .nonce) (r .initial) (r .phase) l (r .body)))
@@ -170,43 +170,43 @@ released-header v e r w (x ∷ input) =
 
 -- a data call gives what it wrote
 released-message : (v : SparkleVariant) (e : SparkleEngine) (r : Reader) → Follows v e r → (input out : List ℕ)
-    → released (paramsOf v) (read (paramsOf v) r (Call.message input out) .reader)
-    ≡ released (paramsOf v) r ++ wrote (step e (Call.message input out))
+    → released (paramsOf v) (read (paramsOf v) r (Call.Data input out) .reader)
+    ≡ released (paramsOf v) r ++ wrote (step e (Call.Data input out))
 unfolding wrote read
 released-message v e r w input out =
-    by (dataCheck (paramsOf v) (r .phase) (heldOf (paramsOf v) r) (length input) (length out)) refl
+    by (dataCheck (paramsOf v) (r .phase) (readerHeld (paramsOf v) r) (length input) (length out)) refl
   where
-    by : (k : AeadResult) → dataCheck (paramsOf v) (r .phase) (heldOf (paramsOf v) r) (length input) (length out) ≡ k
-        → released (paramsOf v) (read (paramsOf v) r (Call.message input out) .reader)
-        ≡ released (paramsOf v) r ++ wrote (step e (Call.message input out))
+    by : (k : AeadResult) → dataCheck (paramsOf v) (r .phase) (readerHeld (paramsOf v) r) (length input) (length out) ≡ k
+        → released (paramsOf v) (read (paramsOf v) r (Call.Data input out) .reader)
+        ≡ released (paramsOf v) r ++ wrote (step e (Call.Data input out))
     by (Ok n) h =
-        let o : step e (Call.message input out) .outcome ≡ Outcome.ok n = message-outcome v e r w input out ∙ ap outcome h in
+        let o : step e (Call.Data input out) .outcome ≡ Outcome.ok n = message-outcome v e r w input out ∙ ap outcome h in
         let q = message-writes-next v e r w input out n o in
         q .bytes ∙ ap (λ (x : Outcome). released (paramsOf v) r ++ take (countOf x)
-        (step e (Call.message input out) .buffer)) (sym o)
+        (step e (Call.Data input out) .buffer)) (sym o)
     by (Err x) h =
-        let o : step e (Call.message input out) .outcome ≡ Outcome.no (refusal x) =
+        let o : step e (Call.Data input out) .outcome ≡ Outcome.no (refusal x) =
         message-outcome v e r w input out ∙ ap outcome h in
         ap (λ (k : AeadResult). released (paramsOf v) (readMessage k r input .reader)) h
-        ∙ unwritten (released (paramsOf v) r) _ (ap (λ (y : Outcome). take (countOf y) (step e (Call.message input out) .buffer)) o)
+        ∙ unwritten (released (paramsOf v) r) _ (ap (λ (y : Outcome). take (countOf y) (step e (Call.Data input out) .buffer)) o)
 
 -- what calls between start and end give is what they wrote
 pub released-step : (v : SparkleVariant) (e : SparkleEngine) (r : Reader) → Follows v e r → (c : Call) → Between e c
     → released (paramsOf v) (read (paramsOf v) r c .reader) ≡ released (paramsOf v) r ++ wrote (step e c)
 unfolding step
-released-step v e r w (Call.start d key nonce size h) b = absurd b
-released-step v e r w (Call.header input) b =
-    released-header v e r w input ∙ unwritten (released (paramsOf v) r) _ (wrote-none (step e (Call.header input)) refl)
-released-step v e r w (Call.message input out) b = released-message v e r w input out
-released-step v e r w (Call.end out) b =
+released-step v e r w (Call.Init d key nonce size h) b = absurd b
+released-step v e r w (Call.Aad input) b =
+    released-header v e r w input ∙ unwritten (released (paramsOf v) r) _ (wrote-none (step e (Call.Aad input)) refl)
+released-step v e r w (Call.Data input out) b = released-message v e r w input out
+released-step v e r w (Call.Final out) b =
     ap (released (paramsOf v)) (end-unread v e r w out b)
-    ∙ unwritten (released (paramsOf v) r) _ (wrote-refused (step e (Call.end out)) (b .0) (b .1))
-released-step v e r w Call.reset b = absurd b
-released-step v e r w Call.tag b = unfold read in unwritten (released (paramsOf v) r) _ (wrote-none (step e Call.tag) refl)
-released-step v e r w (Call.update n) b =
-    unfold read in unwritten (released (paramsOf v) r) _ (wrote-none (step e (Call.update n)) refl)
-released-step v e r w (Call.output n) b =
-    unfold read in unwritten (released (paramsOf v) r) _ (wrote-none (step e (Call.output n)) refl)
+    ∙ unwritten (released (paramsOf v) r) _ (wrote-refused (step e (Call.Final out)) (b .0) (b .1))
+released-step v e r w Call.Reset b = absurd b
+released-step v e r w Call.Mac b = unfold read in unwritten (released (paramsOf v) r) _ (wrote-none (step e Call.Mac) refl)
+released-step v e r w (Call.Update n) b =
+    unfold read in unwritten (released (paramsOf v) r) _ (wrote-none (step e (Call.Update n)) refl)
+released-step v e r w (Call.Output n) b =
+    unfold read in unwritten (released (paramsOf v) r) _ (wrote-none (step e (Call.Output n)) refl)
 
 released-from : (v : SparkleVariant) (e : SparkleEngine) (r : Reader) → Follows v e r → (calls : List Call)
     → AllBetween e calls
@@ -247,7 +247,7 @@ same-kept : (a b : List ℕ) (o : Outcome) → a ≡ b → a ≡ b ++ ifOk o []
 same-kept a b o e = e ∙ unwritten b (ifOk o []) (if-none o)
 
 pub header-outcome : (v : SparkleVariant) (e : SparkleEngine) (r : Reader) (w : Follows v e r) (input : List ℕ)
-    → step e (Call.header input) .outcome
+    → step e (Call.Aad input) .outcome
     ≡ outcome (aadBy (aadCheck (r .phase) (length input)) (engineOf v r (w .mac) (w .count)) input .answer)
 unfolding step processAadBytes
 header-outcome v e r w input =
@@ -259,55 +259,55 @@ header-outcome v e r w input =
 header-step-taken : (v : SparkleVariant) (e : SparkleEngine) (r : Reader) → Follows v e r → (c : Call) → Between e c
     → read (paramsOf v) r c .reader .header ≡ r .header ++ ifOk (step e c .outcome) (headerIn c)
 unfolding read
-header-step-taken v e r w (Call.start d key nonce size h) b = absurd b
-header-step-taken v e r w (Call.header input) b =
+header-step-taken v e r w (Call.Init d key nonce size h) b = absurd b
+header-step-taken v e r w (Call.Aad input) b =
     header-by (aadCheck (r .phase) (length input)) (engineOf v r (w .mac) (w .count)) r input
     ∙ ap (λ (o : Outcome). r .header ++ ifOk o input) (sym (header-outcome v e r w input))
-header-step-taken v e r w (Call.message input out) b =
-    same-kept _ (r .header) (step e (Call.message input out) .outcome)
-    (data-header-by (dataCheck (paramsOf v) (r .phase) (heldOf (paramsOf v) r) (length input) (length out)) r input)
-header-step-taken v e r w (Call.end out) b =
-    same-kept _ (r .header) (step e (Call.end out) .outcome) (ap (λ (x : Reader). x .header) (end-unread v e r w out b))
-header-step-taken v e r w Call.reset b = absurd b
-header-step-taken v e r w Call.tag b = same-kept (r .header) (r .header) (step e Call.tag .outcome) refl
-header-step-taken v e r w (Call.update n) b = same-kept (r .header) (r .header) (step e (Call.update n) .outcome) refl
-header-step-taken v e r w (Call.output n) b = same-kept (r .header) (r .header) (step e (Call.output n) .outcome) refl
+header-step-taken v e r w (Call.Data input out) b =
+    same-kept _ (r .header) (step e (Call.Data input out) .outcome)
+    (data-header-by (dataCheck (paramsOf v) (r .phase) (readerHeld (paramsOf v) r) (length input) (length out)) r input)
+header-step-taken v e r w (Call.Final out) b =
+    same-kept _ (r .header) (step e (Call.Final out) .outcome) (ap (λ (x : Reader). x .header) (end-unread v e r w out b))
+header-step-taken v e r w Call.Reset b = absurd b
+header-step-taken v e r w Call.Mac b = same-kept (r .header) (r .header) (step e Call.Mac .outcome) refl
+header-step-taken v e r w (Call.Update n) b = same-kept (r .header) (r .header) (step e (Call.Update n) .outcome) refl
+header-step-taken v e r w (Call.Output n) b = same-kept (r .header) (r .header) (step e (Call.Output n) .outcome) refl
 
 data-step-taken : (v : SparkleVariant) (e : SparkleEngine) (r : Reader) → Follows v e r → (c : Call) → Between e c
     → read (paramsOf v) r c .reader .body ≡ r .body ++ ifOk (step e c .outcome) (dataOf c)
 unfolding read
-data-step-taken v e r w (Call.start d key nonce size h) b = absurd b
-data-step-taken v e r w (Call.header input) b =
-    same-kept _ (r .body) (step e (Call.header input) .outcome) (header-body-by (aadCheck (r .phase) (length input)) r input)
-data-step-taken v e r w (Call.message input out) b =
-    data-by (dataCheck (paramsOf v) (r .phase) (heldOf (paramsOf v) r) (length input) (length out)) r input
+data-step-taken v e r w (Call.Init d key nonce size h) b = absurd b
+data-step-taken v e r w (Call.Aad input) b =
+    same-kept _ (r .body) (step e (Call.Aad input) .outcome) (header-body-by (aadCheck (r .phase) (length input)) r input)
+data-step-taken v e r w (Call.Data input out) b =
+    data-by (dataCheck (paramsOf v) (r .phase) (readerHeld (paramsOf v) r) (length input) (length out)) r input
     ∙ ap (λ (o : Outcome). r .body ++ ifOk o input) (sym (message-outcome v e r w input out))
-data-step-taken v e r w (Call.end out) b =
-    same-kept _ (r .body) (step e (Call.end out) .outcome) (ap (λ (x : Reader). x .body) (end-unread v e r w out b))
-data-step-taken v e r w Call.reset b = absurd b
-data-step-taken v e r w Call.tag b = same-kept (r .body) (r .body) (step e Call.tag .outcome) refl
-data-step-taken v e r w (Call.update n) b = same-kept (r .body) (r .body) (step e (Call.update n) .outcome) refl
-data-step-taken v e r w (Call.output n) b = same-kept (r .body) (r .body) (step e (Call.output n) .outcome) refl
+data-step-taken v e r w (Call.Final out) b =
+    same-kept _ (r .body) (step e (Call.Final out) .outcome) (ap (λ (x : Reader). x .body) (end-unread v e r w out b))
+data-step-taken v e r w Call.Reset b = absurd b
+data-step-taken v e r w Call.Mac b = same-kept (r .body) (r .body) (step e Call.Mac .outcome) refl
+data-step-taken v e r w (Call.Update n) b = same-kept (r .body) (r .body) (step e (Call.Update n) .outcome) refl
+data-step-taken v e r w (Call.Output n) b = same-kept (r .body) (r .body) (step e (Call.Output n) .outcome) refl
 
 header-taken-from : (v : SparkleVariant) (e : SparkleEngine) (r : Reader) → Follows v e r → (calls : List Call)
     → AllBetween e calls
-    → readFrom (paramsOf v) r calls .header ≡ r .header ++ takenHeader e calls
-unfolding readFrom takenHeader
+    → readFrom (paramsOf v) r calls .header ≡ r .header ++ acceptedHeader e calls
+unfolding readFrom acceptedHeader
 header-taken-from v e r w [] b = sym (append-nil (r .header))
 header-taken-from v e r w (c ∷ calls) b =
     header-taken-from v (step e c .engine) (read (paramsOf v) r c .reader) (follows-step v e r w c) calls (b .1)
-    ∙ ap (λ (l : List ℕ). l ++ takenHeader (step e c .engine) calls) (header-step-taken v e r w c (b .0))
-    ∙ append-assoc (r .header) (ifOk (step e c .outcome) (headerIn c)) (takenHeader (step e c .engine) calls)
+    ∙ ap (λ (l : List ℕ). l ++ acceptedHeader (step e c .engine) calls) (header-step-taken v e r w c (b .0))
+    ∙ append-assoc (r .header) (ifOk (step e c .outcome) (headerIn c)) (acceptedHeader (step e c .engine) calls)
 
 data-taken-from : (v : SparkleVariant) (e : SparkleEngine) (r : Reader) → Follows v e r → (calls : List Call)
     → AllBetween e calls
-    → readFrom (paramsOf v) r calls .body ≡ r .body ++ takenData e calls
-unfolding readFrom takenData
+    → readFrom (paramsOf v) r calls .body ≡ r .body ++ acceptedData e calls
+unfolding readFrom acceptedData
 data-taken-from v e r w [] b = sym (append-nil (r .body))
 data-taken-from v e r w (c ∷ calls) b =
     data-taken-from v (step e c .engine) (read (paramsOf v) r c .reader) (follows-step v e r w c) calls (b .1)
-    ∙ ap (λ (l : List ℕ). l ++ takenData (step e c .engine) calls) (data-step-taken v e r w c (b .0))
-    ∙ append-assoc (r .body) (ifOk (step e c .outcome) (dataOf c)) (takenData (step e c .engine) calls)
+    ∙ ap (λ (l : List ℕ). l ++ acceptedData (step e c .engine) calls) (data-step-taken v e r w c (b .0))
+    ∙ append-assoc (r .body) (ifOk (step e c .outcome) (dataOf c)) (acceptedData (step e c .engine) calls)
 
 -- ---- A start
 
@@ -322,7 +322,7 @@ start-answered (StartErr x) e d key nonce header = refl
 
 pub start-outcome : (v : SparkleVariant) (e : SparkleEngine) (r : Reader) → Follows v e r
     → (d : Direction) (key nonce : List ℕ) (size : ℕ) (h : List ℕ)
-    → step e (Call.start d key nonce size h) .outcome
+    → step e (Call.Init d key nonce size h) .outcome
     ≡ startOutcome (startCheck (paramsOf v) d (length key) (length nonce) size (repeated r key nonce))
 unfolding step init
 start-outcome v e r w d key nonce size h =
@@ -336,20 +336,20 @@ start-outcome v e r w d key nonce size h =
 
 start-read : (v : SparkleVariant) (e : SparkleEngine) (r : Reader) → Follows v e r
     → (d : Direction) (key nonce : List ℕ) (size : ℕ) (h : List ℕ) (n : ℕ)
-    → step e (Call.start d key nonce size h) .outcome ≡ Outcome.ok n
-    → read (paramsOf v) r (Call.start d key nonce size h) .reader ≡ startedReader d key nonce h
+    → step e (Call.Init d key nonce size h) .outcome ≡ Outcome.ok n
+    → read (paramsOf v) r (Call.Init d key nonce size h) .reader ≡ startedReader d key nonce h
 start-read v e r w d key nonce size h n o =
     by (startCheck (paramsOf v) d (length key) (length nonce) size (repeated r key nonce)) refl
   where
     by : (k : AeadInitResult) → startCheck (paramsOf v) d (length key) (length nonce) size (repeated r key nonce) ≡ k
-        → read (paramsOf v) r (Call.start d key nonce size h) .reader ≡ startedReader d key nonce h
+        → read (paramsOf v) r (Call.Init d key nonce size h) .reader ≡ startedReader d key nonce h
     by StartOk q = unfold read in ap (λ (k : AeadInitResult). readStart k r d key nonce h .reader) q
     by (StartErr x) q =
         absurd (let s = sym o ∙ start-outcome v e r w d key nonce size h ∙ ap startOutcome q in let z : _≡_ {A = ℕ} 0 1 = cc in omega arith)
 
 started-going : (d : Direction) (key nonce header : List ℕ) → Going d key nonce (startedReader d key nonce header)
-started-going d key nonce [] = record { takes = Takes.takes-init; key-is = refl; nonce-is = refl }
-started-going d key nonce (x ∷ header) = record { takes = Takes.takes-aad; key-is = refl; nonce-is = refl }
+started-going d key nonce [] = record { takes = Active.in-init; key-is = refl; nonce-is = refl }
+started-going d key nonce (x ∷ header) = record { takes = Active.in-aad; key-is = refl; nonce-is = refl }
 
 -- ---- Whole messages, of what was taken
 
@@ -359,60 +359,60 @@ lastReader v d key nonce initial between = readFrom (paramsOf v) (startedReader 
 
 module _ (v : SparkleVariant) (before : List Call) (d : Direction) (key nonce : List ℕ) (size : ℕ) (initial : List ℕ)
     (between : List Call) (out : List ℕ) where
-  module _ (k : ℕ) (taken : step (run v before) (Call.start d key nonce size initial) .outcome ≡ Outcome.ok k)
-      (b : AllBetween (begunEngine v before d key nonce size initial) between) where
-    pub begun-follows : Follows v (begunEngine v before d key nonce size initial) (startedReader d key nonce initial)
-    begun-follows =
+  module _ (k : ℕ) (taken : step (run v before) (Call.Init d key nonce size initial) .outcome ≡ Outcome.ok k)
+      (b : AllBetween (startedEngine v before d key nonce size initial) between) where
+    pub start-follows : Follows v (startedEngine v before d key nonce size initial) (startedReader d key nonce initial)
+    start-follows =
         let w = follows-run v before in
-        subst (Follows v (begunEngine v before d key nonce size initial))
+        subst (Follows v (startedEngine v before d key nonce size initial))
         (start-read v (run v before) (reader v before) w d key nonce size initial k taken)
-        (follows-step v (run v before) (reader v before) w (Call.start d key nonce size initial))
+        (follows-step v (run v before) (reader v before) w (Call.Init d key nonce size initial))
 
-    pub last-follows : Follows v (runFrom (begunEngine v before d key nonce size initial) between)
+    pub last-follows : Follows v (runFrom (startedEngine v before d key nonce size initial) between)
         (lastReader v d key nonce initial between)
     last-follows =
-        follows-from v (begunEngine v before d key nonce size initial)
-        (startedReader d key nonce initial) begun-follows between
+        follows-from v (startedEngine v before d key nonce size initial)
+        (startedReader d key nonce initial) start-follows between
 
     pub last-going : Going d key nonce (lastReader v d key nonce initial between)
     last-going =
-        going-from d key nonce v (begunEngine v before d key nonce size initial) (startedReader d key nonce initial) begun-follows between b
+        going-from d key nonce v (startedEngine v before d key nonce size initial) (startedReader d key nonce initial) start-follows between b
         (started-going d key nonce initial)
 
     last-released : released (paramsOf v) (lastReader v d key nonce initial between)
-        ≡ outputs (begunEngine v before d key nonce size initial) between
+        ≡ outputs (startedEngine v before d key nonce size initial) between
     last-released =
-        released-from v (begunEngine v before d key nonce size initial)
-        (startedReader d key nonce initial) begun-follows between b
-        ∙ ap (λ (l : List ℕ). l ++ outputs (begunEngine v before d key nonce size initial) between)
+        released-from v (startedEngine v before d key nonce size initial)
+        (startedReader d key nonce initial) start-follows between b
+        ∙ ap (λ (l : List ℕ). l ++ outputs (startedEngine v before d key nonce size initial) between)
         (released-none (paramsOf v) true key nonce initial (headerPhase d initial) initial [] refl)
 
     -- the bytes of the whole list
-    whole-outputs : outputs (run v before) (Call.start d key nonce size initial ∷ (between ++ (Call.end out ∷ [])))
+    whole-outputs : outputs (run v before) (Call.Init d key nonce size initial ∷ (between ++ (Call.Final out ∷ [])))
         ≡ released (paramsOf v) (lastReader v d key nonce initial between) ++ wrote
-        (step (runFrom (begunEngine v before d key nonce size initial) between) (Call.end out))
+        (step (runFrom (startedEngine v before d key nonce size initial) between) (Call.Final out))
     unfolding outputs step
     whole-outputs =
-        ap (λ (l : List ℕ). l ++ outputs (begunEngine v before d key nonce size initial) (between ++ (Call.end out ∷ [])))
-        (wrote-none (step (run v before) (Call.start d key nonce size initial)) refl)
-        ∙ outputs-append (begunEngine v before d key nonce size initial) between (Call.end out ∷ [])
+        ap (λ (l : List ℕ). l ++ outputs (startedEngine v before d key nonce size initial) (between ++ (Call.Final out ∷ [])))
+        (wrote-none (step (run v before) (Call.Init d key nonce size initial)) refl)
+        ∙ outputs-append (startedEngine v before d key nonce size initial) between (Call.Final out ∷ [])
         ∙ ap₂ (λ (x y : List ℕ). x ++ y) (sym last-released) (append-nil
-        (wrote (step (runFrom (begunEngine v before d key nonce size initial) between) (Call.end out))))
+        (wrote (step (runFrom (startedEngine v before d key nonce size initial) between) (Call.Final out))))
 
 -- an end's bytes, from its outcome
-ended-bytes : (a b out : List ℕ) (n : ℕ) (l : Left) → l .outcome ≡ Outcome.ok n → Writes a b out (l .buffer) n → b
+ended-bytes : (a b out : List ℕ) (n : ℕ) (l : StepResult) → l .outcome ≡ Outcome.ok n → Writes a b out (l .buffer) n → b
     ≡ a ++ wrote l
 unfolding wrote
 ended-bytes a b out n l o q = q .bytes ∙ ap (λ (x : Outcome). a ++ take (countOf x) (l .buffer)) (sym o)
 
 -- an end that is taken has passed its checks
 end-checked : (v : SparkleVariant) (e : SparkleEngine) (r : Reader) → Follows v e r → (out : List ℕ) (n : ℕ)
-    → step e (Call.end out) .outcome ≡ Outcome.ok n
-    → (m : ℕ) × (endCheck (paramsOf v) (r .phase) (heldOf (paramsOf v) r) (length out) ≡ Ok m)
-end-checked v e r w out n o = by (endCheck (paramsOf v) (r .phase) (heldOf (paramsOf v) r) (length out)) refl
+    → step e (Call.Final out) .outcome ≡ Outcome.ok n
+    → (m : ℕ) × (endCheck (paramsOf v) (r .phase) (readerHeld (paramsOf v) r) (length out) ≡ Ok m)
+end-checked v e r w out n o = by (endCheck (paramsOf v) (r .phase) (readerHeld (paramsOf v) r) (length out)) refl
   where
-    by : (x : AeadResult) → endCheck (paramsOf v) (r .phase) (heldOf (paramsOf v) r) (length out) ≡ x
-        → (m : ℕ) × (endCheck (paramsOf v) (r .phase) (heldOf (paramsOf v) r) (length out) ≡ Ok m)
+    by : (x : AeadResult) → endCheck (paramsOf v) (r .phase) (readerHeld (paramsOf v) r) (length out) ≡ x
+        → (m : ℕ) × (endCheck (paramsOf v) (r .phase) (readerHeld (paramsOf v) r) (length out) ≡ Ok m)
     by (Ok m) q = (m, q)
     by (Err x) q = absurd (let s = sym o ∙ end-refused v e r w out x q in let z : _≡_ {A = ℕ} 0 1 = cc in omega arith)
 
@@ -420,10 +420,10 @@ end-checked v e r w out n o = by (endCheck (paramsOf v) (r .phase) (heldOf (para
 -- written are the specification's packet for the header and the data that were taken.
 pub sealed-taken : (v : SparkleVariant) (before : List Call) (key nonce : List ℕ) (size : ℕ) (initial : List ℕ)
     (between : List Call) (out : List ℕ)
-    (k n : ℕ) → step (run v before) (Call.start Encrypt key nonce size initial) .outcome ≡ Outcome.ok k
-    → AllBetween (begunEngine v before Encrypt key nonce size initial) between
-    → step (runFrom (begunEngine v before Encrypt key nonce size initial) between) (Call.end out) .outcome ≡ Outcome.ok n
-    → outputs (run v before) (Call.start Encrypt key nonce size initial ∷ (between ++ (Call.end out ∷ [])))
+    (k n : ℕ) → step (run v before) (Call.Init Encrypt key nonce size initial) .outcome ≡ Outcome.ok k
+    → AllBetween (startedEngine v before Encrypt key nonce size initial) between
+    → step (runFrom (startedEngine v before Encrypt key nonce size initial) between) (Call.Final out) .outcome ≡ Outcome.ok n
+    → outputs (run v before) (Call.Init Encrypt key nonce size initial ∷ (between ++ (Call.Final out ∷ [])))
     ≡ seal (paramsOf v) key nonce (lastReader v Encrypt key nonce initial between .header)
     (lastReader v Encrypt key nonce initial between .body)
 sealed-taken v before key nonce size initial between out k n taken b o =
@@ -432,7 +432,7 @@ sealed-taken v before key nonce size initial between out k n taken b o =
     let w = last-follows v before Encrypt key nonce size initial between out k taken b in
     let g = last-going v before Encrypt key nonce size initial between out k taken b in
     let c = end-checked v _ r w out n o in
-    let s = seal-end v _ r w out (c .0) (c .1) (takes-opening (g .takes)) in
+    let s = seal-end v _ r w out (c .0) (c .1) (active-opening (g .takes)) in
     whole-outputs v before Encrypt key nonce size initial between out k taken b
     ∙ sym (ended-bytes _ _ out (c .0) _ (s .outcome-is) (s .bytes-are))
     ∙ ap₂ (λ (x y : List ℕ). seal p x y (r .header) (r .body)) (g .key-is) (g .nonce-is)
@@ -449,18 +449,18 @@ cond-ok false n m e = absurd (let z : _≡_ {A = ℕ} 0 1 = cc in omega arith)
 
 pub opened-taken : (v : SparkleVariant) (before : List Call) (key nonce : List ℕ) (size : ℕ) (initial : List ℕ)
     (between : List Call) (out : List ℕ)
-    (k n : ℕ) → step (run v before) (Call.start Decrypt key nonce size initial) .outcome ≡ Outcome.ok k
-    → AllBetween (begunEngine v before Decrypt key nonce size initial) between
-    → step (runFrom (begunEngine v before Decrypt key nonce size initial) between) (Call.end out) .outcome ≡ Outcome.ok n
+    (k n : ℕ) → step (run v before) (Call.Init Decrypt key nonce size initial) .outcome ≡ Outcome.ok k
+    → AllBetween (startedEngine v before Decrypt key nonce size initial) between
+    → step (runFrom (startedEngine v before Decrypt key nonce size initial) between) (Call.Final out) .outcome ≡ Outcome.ok n
     → OpenedTaken v key nonce (lastReader v Decrypt key nonce initial between)
-    (outputs (run v before) (Call.start Decrypt key nonce size initial ∷ (between ++ (Call.end out ∷ []))))
+    (outputs (run v before) (Call.Init Decrypt key nonce size initial ∷ (between ++ (Call.Final out ∷ []))))
 opened-taken v before key nonce size initial between out k n taken b o =
     let p = paramsOf v in
     let r = lastReader v Decrypt key nonce initial between in
     let w = last-follows v before Decrypt key nonce size initial between out k taken b in
     let g = last-going v before Decrypt key nonce size initial between out k taken b in
     let c = end-checked v _ r w out n o in
-    let s = open-end v _ r w out (c .0) (c .1) (takes-opening (g .takes)) in
+    let s = open-end v _ r w out (c .0) (c .1) (active-opening (g .takes)) in
     let good = cond-ok (verified p (r .key) (r .nonce) (r .header) (r .body)) (c .0) n (sym (s .outcome-is) ∙ o) in
     let oks = s .outcome-is ∙ ap (λ (x : Bool). cond x (Outcome.ok (c .0)) (Outcome.no (6 ∷ []))) good in
     record {
@@ -475,29 +475,29 @@ opened-taken v before key nonce size initial between out k n taken b o =
 -- seal to what the specification gives.
 pub sealed-unrefused : (v : SparkleVariant) (before : List Call) (key nonce : List ℕ) (size : ℕ) (initial : List ℕ)
     (between : List Call) (out : List ℕ)
-    (k n : ℕ) → step (run v before) (Call.start Encrypt key nonce size initial) .outcome ≡ Outcome.ok k
-    → AllBetween (begunEngine v before Encrypt key nonce size initial) between
-    → step (runFrom (begunEngine v before Encrypt key nonce size initial) between) (Call.end out) .outcome ≡ Outcome.ok n
-    → outputs (run v before) (Call.start Encrypt key nonce size initial ∷ (between ++ (Call.end out ∷ [])))
-    ≡ seal (paramsOf v) key nonce (initial ++ takenHeader (begunEngine v before Encrypt key nonce size initial) between)
-    (takenData (begunEngine v before Encrypt key nonce size initial) between)
+    (k n : ℕ) → step (run v before) (Call.Init Encrypt key nonce size initial) .outcome ≡ Outcome.ok k
+    → AllBetween (startedEngine v before Encrypt key nonce size initial) between
+    → step (runFrom (startedEngine v before Encrypt key nonce size initial) between) (Call.Final out) .outcome ≡ Outcome.ok n
+    → outputs (run v before) (Call.Init Encrypt key nonce size initial ∷ (between ++ (Call.Final out ∷ [])))
+    ≡ seal (paramsOf v) key nonce (initial ++ acceptedHeader (startedEngine v before Encrypt key nonce size initial) between)
+    (acceptedData (startedEngine v before Encrypt key nonce size initial) between)
 sealed-unrefused v before key nonce size initial between out k n taken b o =
-    let w = begun-follows v before Encrypt key nonce size initial between out k taken b in
+    let w = start-follows v before Encrypt key nonce size initial between out k taken b in
     sealed-taken v before key nonce size initial between out k n taken b o
     ∙ ap₂ (λ (x y : List ℕ). seal (paramsOf v) key nonce x y) (header-taken-from v _ _ w between b)
     (data-taken-from v _ _ w between b)
 
 pub opened-unrefused : (v : SparkleVariant) (before : List Call) (key nonce : List ℕ) (size : ℕ) (initial : List ℕ)
     (between : List Call) (out : List ℕ)
-    (k n : ℕ) → step (run v before) (Call.start Decrypt key nonce size initial) .outcome ≡ Outcome.ok k
-    → AllBetween (begunEngine v before Decrypt key nonce size initial) between
-    → step (runFrom (begunEngine v before Decrypt key nonce size initial) between) (Call.end out) .outcome ≡ Outcome.ok n
-    → OpenedUnrefused v key nonce (initial ++ takenHeader (begunEngine v before Decrypt key nonce size initial) between)
-    (takenData (begunEngine v before Decrypt key nonce size initial) between)
-    (outputs (run v before) (Call.start Decrypt key nonce size initial ∷ (between ++ (Call.end out ∷ []))))
+    (k n : ℕ) → step (run v before) (Call.Init Decrypt key nonce size initial) .outcome ≡ Outcome.ok k
+    → AllBetween (startedEngine v before Decrypt key nonce size initial) between
+    → step (runFrom (startedEngine v before Decrypt key nonce size initial) between) (Call.Final out) .outcome ≡ Outcome.ok n
+    → OpenedUnrefused v key nonce (initial ++ acceptedHeader (startedEngine v before Decrypt key nonce size initial) between)
+    (acceptedData (startedEngine v before Decrypt key nonce size initial) between)
+    (outputs (run v before) (Call.Init Decrypt key nonce size initial ∷ (between ++ (Call.Final out ∷ []))))
 opened-unrefused v before key nonce size initial between out k n taken b o =
     let p = paramsOf v in
-    let w = begun-follows v before Decrypt key nonce size initial between out k taken b in
+    let w = start-follows v before Decrypt key nonce size initial between out k taken b in
     let hq = header-taken-from v _ _ w between b in
     let dq = data-taken-from v _ _ w between b in
     let q = opened-taken v before key nonce size initial between out k n taken b o in
@@ -509,23 +509,23 @@ opened-unrefused v before key nonce size initial between out k n taken b o =
 -- What unrefused calls seal, unrefused calls open: the bytes that were sealed come back as the data that was taken.
 pub returned-unrefused : (v : SparkleVariant) (before after : List Call) (key nonce : List ℕ)
     (size size' : ℕ) (initial initial' : List ℕ) (between between' : List Call) (out out' : List ℕ) (k k' n n' : ℕ)
-    → step (run v before) (Call.start Encrypt key nonce size initial) .outcome ≡ Outcome.ok k
-    → AllBetween (begunEngine v before Encrypt key nonce size initial) between
-    → step (runFrom (begunEngine v before Encrypt key nonce size initial) between) (Call.end out) .outcome ≡ Outcome.ok n
-    → step (run v after) (Call.start Decrypt key nonce size' initial') .outcome ≡ Outcome.ok k'
-    → AllBetween (begunEngine v after Decrypt key nonce size' initial') between'
-    → step (runFrom (begunEngine v after Decrypt key nonce size' initial') between') (Call.end out') .outcome ≡ Outcome.ok n'
-    → initial' ++ takenHeader (begunEngine v after Decrypt key nonce size' initial') between'
-    ≡ initial ++ takenHeader (begunEngine v before Encrypt key nonce size initial) between
-    → takenData (begunEngine v after Decrypt key nonce size' initial') between'
-    ≡ outputs (run v before) (Call.start Encrypt key nonce size initial ∷ (between ++ (Call.end out ∷ [])))
-    → outputs (run v after) (Call.start Decrypt key nonce size' initial' ∷ (between' ++ (Call.end out' ∷ [])))
-    ≡ takenData (begunEngine v before Encrypt key nonce size initial) between
+    → step (run v before) (Call.Init Encrypt key nonce size initial) .outcome ≡ Outcome.ok k
+    → AllBetween (startedEngine v before Encrypt key nonce size initial) between
+    → step (runFrom (startedEngine v before Encrypt key nonce size initial) between) (Call.Final out) .outcome ≡ Outcome.ok n
+    → step (run v after) (Call.Init Decrypt key nonce size' initial') .outcome ≡ Outcome.ok k'
+    → AllBetween (startedEngine v after Decrypt key nonce size' initial') between'
+    → step (runFrom (startedEngine v after Decrypt key nonce size' initial') between') (Call.Final out') .outcome ≡ Outcome.ok n'
+    → initial' ++ acceptedHeader (startedEngine v after Decrypt key nonce size' initial') between'
+    ≡ initial ++ acceptedHeader (startedEngine v before Encrypt key nonce size initial) between
+    → acceptedData (startedEngine v after Decrypt key nonce size' initial') between'
+    ≡ outputs (run v before) (Call.Init Encrypt key nonce size initial ∷ (between ++ (Call.Final out ∷ [])))
+    → outputs (run v after) (Call.Init Decrypt key nonce size' initial' ∷ (between' ++ (Call.Final out' ∷ [])))
+    ≡ acceptedData (startedEngine v before Encrypt key nonce size initial) between
 returned-unrefused v before after key nonce size size' initial initial' between between' out out' k k' n n' st b en st' b' en' he de =
     let p = paramsOf v in
-    let H = initial ++ takenHeader (begunEngine v before Encrypt key nonce size initial) between in
-    let m = takenData (begunEngine v before Encrypt key nonce size initial) between in
-    let kf = begun-follows v before Encrypt key nonce size initial between out k st b .fits refl .key-fits in
+    let H = initial ++ acceptedHeader (startedEngine v before Encrypt key nonce size initial) between in
+    let m = acceptedData (startedEngine v before Encrypt key nonce size initial) between in
+    let kf = start-follows v before Encrypt key nonce size initial between out k st b .fits refl .key-fits in
     let packet = de ∙ sealed-unrefused v before key nonce size initial between out k n st b en in
     opened-unrefused v after key nonce size' initial' between' out' k' n' st' b' en' .bytes-are
     ∙ ap₂ (λ (x y : List ℕ). decrypt p key nonce x (bodyOf p y)) he packet

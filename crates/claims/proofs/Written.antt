@@ -21,29 +21,29 @@ use Rattle.tc_aead_cipher.specs.Variant.{paramsOf}
 use Rattle.tc_aead_cipher.specs.Refusals.{refusal}
 use Rattle.tc_aead_cipher.specs.Checks.{opens, opening, dataCheck, endCheck}
 use Rattle.tc_sparkle_aead.specs.Engine.{zeros, noMac}
-use Rattle.tc_sparkle_aead.specs.Calls.{beginData, written, dataBy, dataOutBy, dataAnswer, processBytes, processBytesOut, sealLast, sealTag, openBlock, openLast, receivedTag, openTag, sealEnd, openEndBy, openEnd, openEndOutBy, finalBy, finalOutBy, finalAnswer, doFinal, doFinalOut, readable, macOf, stepsNow}
+use Rattle.tc_sparkle_aead.specs.Calls.{beginData, written, dataBy, dataOutBy, dataAnswer, processBytes, processBytesOut, sealLast, sealTag, openBlock, openLast, receivedTag, openTag, sealFinal, openFinalBy, openFinal, openEndOut, finalBy, finalOutBy, finalAnswer, doFinal, doFinalOut, readable, macOf, stepsNow}
 use Rattle.tc_aead_cipher.proofs.VariantLaws.{sizes}
 use Rattle.schwaemm.proofs.RoundTrip.{length-decrypt}
 use Rattle.tc_aead_cipher.specs.Call.{Call}
-use Rattle.tc_sparkle_aead.specs.Sheet.{Left, step}
+use Rattle.tc_sparkle_aead.specs.Sheet.{StepResult, step}
 use Rattle.tc_aead_cipher.specs.Outcome.{Outcome, outcome}
-use Rattle.claims.specs.Reader.{Reader, heldOf, inPhase, readMessage, read}
-use Rattle.claims.specs.Messages.{released, Writes, messageOf, Ended}
+use Rattle.claims.specs.Reader.{Reader, readerHeld, inPhase, readMessage, read}
+use Rattle.claims.specs.Messages.{released, Writes, messageOf, EndsWith}
 use Rattle.claims.proofs.Packets.{length-body}
 use Rattle.claims.proofs.Kept.{Follows, Fits, Standing, engineOf, openedMac}
-use Rattle.claims.proofs.Follows.{Takes, kept, inData, takes-enough, begun-data, takes-loaded, opening-verified}
+use Rattle.claims.proofs.Follows.{Active, kept, inData, active-enough, begin-data, active-loaded, opening-verified}
 use Rattle.claims.proofs.Follows.{seal-engine, open-engine, data-answer, final-answer}
 use Rattle.claims.proofs.Accepted.{data-good, end-good, data-takes, end-takes, EndPassed, released-data, writes}
 use Rattle.claims.proofs.Accepted.{message-writes, seal-bytes, seal-length, open-bytes, open-length, last-length}
-use Rattle.claims.proofs.Accepted.{is-open, end-count, takes-opening}
+use Rattle.claims.proofs.Accepted.{is-open, end-count, active-opening}
 
 -- What an end past its checks answers and writes: a sealing's, and an opening's, by whether the packet is verified.
-pub record SealEnd (v : SparkleVariant) (r : Reader) (out : List ℕ) (n : ℕ) (left : Left) : Type 0 where
+pub record SealEnd (v : SparkleVariant) (r : Reader) (out : List ℕ) (n : ℕ) (left : StepResult) : Type 0 where
   pub outcome-is : left .outcome ≡ Outcome.ok n
   pub bytes-are : Writes (released (paramsOf v) r) (seal (paramsOf v) (r .key) (r .nonce) (r .header) (r .body)) out
       (left .buffer) n
 
-pub record OpenEnd (v : SparkleVariant) (r : Reader) (out : List ℕ) (n : ℕ) (good : Bool) (left : Left) : Type 0 where
+pub record OpenEnd (v : SparkleVariant) (r : Reader) (out : List ℕ) (n : ℕ) (good : Bool) (left : StepResult) : Type 0 where
   pub outcome-is : left .outcome ≡ cond good (Outcome.ok n) (Outcome.no (6 ∷ []))
   pub good-bytes : good ≡ true
       → Writes (released (paramsOf v) r) (decrypt (paramsOf v) (r .key) (r .nonce) (r .header)
@@ -62,8 +62,8 @@ data-answered (Err x) e input = refl
 
 -- its answer is the reader's check
 pub message-outcome : (v : SparkleVariant) (e : SparkleEngine) (r : Reader) → Follows v e r → (input out : List ℕ)
-    → step e (Call.message input out) .outcome
-    ≡ outcome (dataCheck (paramsOf v) (r .phase) (heldOf (paramsOf v) r) (length input) (length out))
+    → step e (Call.Data input out) .outcome
+    ≡ outcome (dataCheck (paramsOf v) (r .phase) (readerHeld (paramsOf v) r) (length input) (length out))
 unfolding step processBytes
 message-outcome v e r w input out =
     let E = engineOf v r (w .mac) (w .count) in
@@ -73,26 +73,26 @@ message-outcome v e r w input out =
 
 pub message-writes-next : (v : SparkleVariant) (e : SparkleEngine) (r : Reader) → Follows v e r
     → (input out : List ℕ) (n : ℕ)
-    → step e (Call.message input out) .outcome ≡ Outcome.ok n
-    → Writes (released (paramsOf v) r) (released (paramsOf v) (read (paramsOf v) r (Call.message input out) .reader)) out
-    (step e (Call.message input out) .buffer) n
+    → step e (Call.Data input out) .outcome ≡ Outcome.ok n
+    → Writes (released (paramsOf v) r) (released (paramsOf v) (read (paramsOf v) r (Call.Data input out) .reader)) out
+    (step e (Call.Data input out) .buffer) n
 unfolding step read processBytesOut
 message-writes-next v e r w input out n o =
     let p = paramsOf v in
     let E = engineOf v r (w .mac) (w .count) in
-    let K : dataCheck p (r .phase) (heldOf p r) (length input) (length out) ≡ Ok n =
+    let K : dataCheck p (r .phase) (readerHeld p r) (length input) (length out) ≡ Ok n =
     outcome-ok _ n (sym (message-outcome v e r w input out) ∙ o) in
     let A : dataAnswer E (length input) (length out) ≡ Ok n =
     data-answer v r (w .mac) (w .count) (length input) (length out) ∙ K in
-    let t = data-takes p (r .phase) (heldOf p r) (length input) (length out) n K in
-    subst (λ (x : SparkleEngine). Writes (released p r) (released p (read p r (Call.message input out) .reader)) out
+    let t = data-takes p (r .phase) (readerHeld p r) (length input) (length out) n K in
+    subst (λ (x : SparkleEngine). Writes (released p r) (released p (read p r (Call.Data input out) .reader)) out
     (processBytesOut x input out) n)
     (sym (w .same-engine))
     (subst (λ (k : AeadResult). Writes (released p r) (released p (readMessage k r input .reader)) out (processBytesOut E input out) n) (sym K)
     (subst (λ (k : AeadResult). Writes (released p r) (released p (readMessage (Ok n) r input .reader)) out (dataOutBy k E input out) n) (sym A)
     (message-writes v (r .loaded) (r .key) (r .nonce) (r .initial) (w .fits) (r .header) (r .body) (w .mac) (w .count) (t .1)
     (w .standing) input out n
-    (data-good p (r .phase) (heldOf p r) (length input) (length out) n K))))
+    (data-good p (r .phase) (readerHeld p r) (length input) (length out) n K))))
 
 -- ---- An end past its checks
 
@@ -103,20 +103,20 @@ wiped m n out e =
 
 module _ (v : SparkleVariant) (loaded : Bool) (key nonce initial header body : List ℕ) (mac : Mac) (c : ℕ)
     (f : loaded ≡ true → Fits (paramsOf v) key nonce) (out : List ℕ) (n : ℕ) where
-  sealed-end : {phase : Phase} → Takes Encrypt phase → Standing (paramsOf v) phase loaded key nonce initial header body mac c
+  sealed-end : {phase : Phase} → Active Encrypt phase → Standing (paramsOf v) phase loaded key nonce initial header body mac c
       → (b : Bool) → b ≡ false → (e : SparkleEngine) → e ≡ inData v loaded key nonce initial Encrypt header body
-      → EndPassed (paramsOf v) phase (heldOf (paramsOf v) (kept loaded key nonce initial phase header body)) (length out) n
+      → EndPassed (paramsOf v) phase (readerHeld (paramsOf v) (kept loaded key nonce initial phase header body)) (length out) n
       → SealEnd v (kept loaded key nonce initial phase header body) out n
       (record {
-        engine = cond b (openEnd e n) (sealEnd e n) .engine;
-        outcome = outcome (cond b (openEnd e n) (sealEnd e n) .answer);
-        buffer = written (cond b (openEndOutBy (same (receivedTag e) (openTag e)) e) (sealLast e ++ sealTag e)) out;
+        engine = cond b (openFinal e n) (sealFinal e n) .engine;
+        outcome = outcome (cond b (openFinal e n) (sealFinal e n) .answer);
+        buffer = written (cond b (openEndOut (same (receivedTag e) (openTag e)) e) (sealLast e ++ sealTag e)) out;
       })
-  unfolding sealEnd
+  unfolding sealFinal
   sealed-end t st true no-open e is ok = absurd (let z : _≡_ {A = ℕ} 0 1 = cc in omega arith)
   sealed-end {phase} t st false no-open e is ok =
       let p = paramsOf v in
-      let l = takes-loaded v loaded key nonce initial f t header body mac c st in
+      let l = active-loaded v loaded key nonce initial f t header body mac c st in
       record {
         outcome-is = refl;
         bytes-are =
@@ -130,29 +130,29 @@ module _ (v : SparkleVariant) (loaded : Bool) (key nonce initial header body : L
             (ok .fits);
       }
 
-  opened-end : {phase : Phase} → Takes Decrypt phase → Standing (paramsOf v) phase loaded key nonce initial header body mac c
+  opened-end : {phase : Phase} → Active Decrypt phase → Standing (paramsOf v) phase loaded key nonce initial header body mac c
       → (b : Bool) → b ≡ true → (e : SparkleEngine) → e ≡ inData v loaded key nonce initial Decrypt header body
       → paramsOf v .key ≤ length body
-      → EndPassed (paramsOf v) phase (heldOf (paramsOf v) (kept loaded key nonce initial phase header body)) (length out) n
+      → EndPassed (paramsOf v) phase (readerHeld (paramsOf v) (kept loaded key nonce initial phase header body)) (length out) n
       → OpenEnd v (kept loaded key nonce initial phase header body) out n (verified (paramsOf v) key nonce header body)
       (record {
-        engine = cond b (openEnd e n) (sealEnd e n) .engine;
-        outcome = outcome (cond b (openEnd e n) (sealEnd e n) .answer);
-        buffer = written (cond b (openEndOutBy (same (receivedTag e) (openTag e)) e) (sealLast e ++ sealTag e)) out;
+        engine = cond b (openFinal e n) (sealFinal e n) .engine;
+        outcome = outcome (cond b (openFinal e n) (sealFinal e n) .answer);
+        buffer = written (cond b (openEndOut (same (receivedTag e) (openTag e)) e) (sealLast e ++ sealTag e)) out;
       })
-  unfolding openEnd
+  unfolding openFinal
   opened-end t st false is-opening e is enough ok = absurd (let z : _≡_ {A = ℕ} 0 1 = cc in omega arith)
   opened-end {phase} t st true is-opening e is enough ok =
       let p = paramsOf v in
-      let l = takes-loaded v loaded key nonce initial f t header body mac c st in
+      let l = active-loaded v loaded key nonce initial f t header body mac c st in
       subst (λ (g : Bool). OpenEnd v (kept loaded key nonce initial phase header body) out n
       (verified p key nonce header body)
-      (record { engine = openEndBy g e n .engine; outcome = outcome (openEndBy g e n .answer); buffer = written (openEndOutBy g e) out }))
+      (record { engine = openFinalBy g e n .engine; outcome = outcome (openFinalBy g e n .answer); buffer = written (openEndOut g e) out }))
       (sym (ap (λ (y : SparkleEngine). same (receivedTag y) (openTag y)) is ∙ opening-verified v loaded key nonce initial f l header body enough))
       (by l (verified p key nonce header body))
     where
       by : loaded ≡ true → (g : Bool) → OpenEnd v (kept loaded key nonce initial phase header body) out n g
-          (record { engine = openEndBy g e n .engine; outcome = outcome (openEndBy g e n .answer); buffer = written (openEndOutBy g e) out })
+          (record { engine = openFinalBy g e n .engine; outcome = outcome (openFinalBy g e n .answer); buffer = written (openEndOut g e) out })
       by l true =
           let p = paramsOf v in
           record {
@@ -181,9 +181,9 @@ module _ (v : SparkleVariant) (loaded : Bool) (key nonce initial header body : L
 -- the results of a step
 module _ (v : SparkleVariant) (r : Reader) (mac : Mac) (c : ℕ) (f : r .loaded ≡ true → Fits (paramsOf v) (r .key) (r .nonce))
     (st : Standing (paramsOf v) (r .phase) (r .loaded) (r .key) (r .nonce) (r .initial) (r .header) (r .body) mac c)
-    (out : List ℕ) (n : ℕ) (passed : endCheck (paramsOf v) (r .phase) (heldOf (paramsOf v) r) (length out) ≡ Ok n) where
+    (out : List ℕ) (n : ℕ) (passed : endCheck (paramsOf v) (r .phase) (readerHeld (paramsOf v) r) (length out) ≡ Ok n) where
   -- the step of an end past its checks
-  abbrev leftBy : AeadResult → Left
+  abbrev leftBy : AeadResult → StepResult
   leftBy k =
       record {
         engine = finalBy k (engineOf v r mac c) .engine;
@@ -192,64 +192,64 @@ module _ (v : SparkleVariant) (r : Reader) (mac : Mac) (c : ℕ) (f : r .loaded 
         buffer = finalOutBy k (engineOf v r mac c) out;
       }
 
-  step-is : step (engineOf v r mac c) (Call.end out) ≡ leftBy (Ok n)
+  step-is : step (engineOf v r mac c) (Call.Final out) ≡ leftBy (Ok n)
   unfolding step doFinal doFinalOut
   step-is = ap leftBy (final-answer v r mac c (length out) ∙ passed)
 
   -- what the checks tell, the direction, and the engine in which the data begins
-  good : EndPassed (paramsOf v) (r .phase) (heldOf (paramsOf v) r) (length out) n
-  good = end-good (paramsOf v) (r .phase) (heldOf (paramsOf v) r) (length out) n passed
+  good : EndPassed (paramsOf v) (r .phase) (readerHeld (paramsOf v) r) (length out) n
+  good = end-good (paramsOf v) (r .phase) (readerHeld (paramsOf v) r) (length out) n passed
 
-  module _ {d : Direction} (t : Takes d (r .phase)) where
+  module _ {d : Direction} (t : Active d (r .phase)) where
     direction : opening (engineOf v r mac c .current .phase) ≡ opens d
     direction = is-open v (r .loaded) (r .key) (r .nonce) (r .initial) f (r .header) (r .body) mac c t st out n good
 
     begins : beginData (engineOf v r mac c) ≡ inData v (r .loaded) (r .key) (r .nonce) (r .initial) d (r .header) (r .body)
-    begins = begun-data v (r .loaded) (r .key) (r .nonce) (r .initial) f t (r .header) (r .body) mac c st
+    begins = begin-data v (r .loaded) (r .key) (r .nonce) (r .initial) f t (r .header) (r .body) mac c st
 
     was-loaded : r .loaded ≡ true
-    was-loaded = takes-loaded v (r .loaded) (r .key) (r .nonce) (r .initial) f t (r .header) (r .body) mac c st
+    was-loaded = active-loaded v (r .loaded) (r .key) (r .nonce) (r .initial) f t (r .header) (r .body) mac c st
 
-  enough : Takes Decrypt (r .phase) → paramsOf v .key ≤ length (r .body)
-  enough t = takes-enough (paramsOf v) (sizes v) t (r .key) (r .nonce) (r .header) (r .body) (length out) n passed
+  enough : Active Decrypt (r .phase) → paramsOf v .key ≤ length (r .body)
+  enough t = active-enough (paramsOf v) (sizes v) t (r .key) (r .nonce) (r .header) (r .body) (length out) n passed
 
-  seal-step : Takes Encrypt (r .phase) → SealEnd v r out n (step (engineOf v r mac c) (Call.end out))
+  seal-step : Active Encrypt (r .phase) → SealEnd v r out n (step (engineOf v r mac c) (Call.Final out))
   seal-step t =
       subst (SealEnd v r out n) (sym step-is)
       (sealed-end v (r .loaded) (r .key) (r .nonce) (r .initial) (r .header) (r .body) mac c f out n t st
       (opening (engineOf v r mac c .current .phase)) (direction t) (beginData (engineOf v r mac c)) (begins t) good)
 
-  open-step : Takes Decrypt (r .phase)
+  open-step : Active Decrypt (r .phase)
       → OpenEnd v r out n (verified (paramsOf v) (r .key) (r .nonce) (r .header) (r .body))
-      (step (engineOf v r mac c) (Call.end out))
+      (step (engineOf v r mac c) (Call.Final out))
   open-step t =
       subst (OpenEnd v r out n (verified (paramsOf v) (r .key) (r .nonce) (r .header) (r .body))) (sym step-is)
       (opened-end v (r .loaded) (r .key) (r .nonce) (r .initial) (r .header) (r .body) mac c f out n t st
       (opening (engineOf v r mac c .current .phase)) (direction t) (beginData (engineOf v r mac c)) (begins t) (enough t) good)
 
   -- the engine afterwards
-  seal-engine-step : Takes Encrypt (r .phase)
-      → step (engineOf v r mac c) (Call.end out) .engine
+  seal-engine-step : Active Encrypt (r .phase)
+      → step (engineOf v r mac c) (Call.Final out) .engine
       ≡ engineOf v (inPhase r (Final Encrypt) (r .header) (r .body))
       (readable (tag (paramsOf v) (r .key) (r .nonce) (r .header) (r .body)))
       (steps (paramsOf v) (length (r .header)) (length (r .body)) % 2 ^ 64)
   seal-engine-step t =
       let e = beginData (engineOf v r mac c) in
-      ap (λ (x : Left). x .engine) step-is
-      ∙ ap (λ (b : Bool). cond b (openEnd e n) (sealEnd e n) .engine) (direction t)
-      ∙ ap (λ (y : SparkleEngine). sealEnd y n .engine) (begins t)
+      ap (λ (x : StepResult). x .engine) step-is
+      ∙ ap (λ (b : Bool). cond b (openFinal e n) (sealFinal e n) .engine) (direction t)
+      ∙ ap (λ (y : SparkleEngine). sealFinal y n .engine) (begins t)
       ∙ seal-engine v (r .loaded) (r .key) (r .nonce) (r .initial) f (was-loaded t) (r .header) (r .body) n
 
-  open-engine-step : Takes Decrypt (r .phase)
-      → step (engineOf v r mac c) (Call.end out) .engine
+  open-engine-step : Active Decrypt (r .phase)
+      → step (engineOf v r mac c) (Call.Final out) .engine
       ≡ engineOf v (inPhase r (Final Decrypt) (r .header) (r .body))
       (openedMac (paramsOf v) (r .key) (r .nonce) (r .header) (r .body))
       (steps (paramsOf v) (length (r .header)) (length (r .body) - paramsOf v .key) % 2 ^ 64)
   open-engine-step t =
       let e = beginData (engineOf v r mac c) in
-      ap (λ (x : Left). x .engine) step-is
-      ∙ ap (λ (b : Bool). cond b (openEnd e n) (sealEnd e n) .engine) (direction t)
-      ∙ ap (λ (y : SparkleEngine). openEnd y n .engine) (begins t)
+      ap (λ (x : StepResult). x .engine) step-is
+      ∙ ap (λ (b : Bool). cond b (openFinal e n) (sealFinal e n) .engine) (direction t)
+      ∙ ap (λ (y : SparkleEngine). openFinal y n .engine) (begins t)
       ∙ open-engine v (r .loaded) (r .key) (r .nonce) (r .initial) f (was-loaded t) (r .header) (r .body) (enough t) n
 
 mac-shown : (good : Bool) (t : List ℕ) (e : SparkleEngine) → e .mac ≡ cond good (readable t) noMac → macOf e
@@ -264,7 +264,7 @@ module _ (v : SparkleVariant) (r : Reader) (e : SparkleEngine) where
       ≡ engineOf v (inPhase r (Final Encrypt) (r .header) (r .body))
       (readable (tag (paramsOf v) (r .key) (r .nonce) (r .header) (r .body)))
       (steps (paramsOf v) (length (r .header)) (length (r .body)) % 2 ^ 64)
-      → Ended v r (cond (opening (r .phase)) (verified (paramsOf v) (r .key) (r .nonce) (r .header) (r .body)) true) e
+      → EndsWith v r (cond (opening (r .phase)) (verified (paramsOf v) (r .key) (r .nonce) (r .header) (r .body)) true) e
   unfolding messageOf stepsNow
   ended-sealing b is =
       record {
@@ -279,7 +279,7 @@ module _ (v : SparkleVariant) (r : Reader) (e : SparkleEngine) where
       ≡ engineOf v (inPhase r (Final Decrypt) (r .header) (r .body))
       (openedMac (paramsOf v) (r .key) (r .nonce) (r .header) (r .body))
       (steps (paramsOf v) (length (r .header)) (length (r .body) - paramsOf v .key) % 2 ^ 64)
-      → Ended v r (cond (opening (r .phase)) (verified (paramsOf v) (r .key) (r .nonce) (r .header) (r .body)) true) e
+      → EndsWith v r (cond (opening (r .phase)) (verified (paramsOf v) (r .key) (r .nonce) (r .header) (r .body)) true) e
   unfolding messageOf stepsNow openedMac
   ended-opening b enough is =
       let p = paramsOf v in
@@ -299,29 +299,29 @@ module _ (v : SparkleVariant) (r : Reader) (e : SparkleEngine) where
 
 -- an end past its checks, on an engine that follows the reader
 pub seal-end : (v : SparkleVariant) (e : SparkleEngine) (r : Reader) → Follows v e r → (out : List ℕ) (n : ℕ)
-    → endCheck (paramsOf v) (r .phase) (heldOf (paramsOf v) r) (length out) ≡ Ok n → opening (r .phase) ≡ false
-    → SealEnd v r out n (step e (Call.end out))
+    → endCheck (paramsOf v) (r .phase) (readerHeld (paramsOf v) r) (length out) ≡ Ok n → opening (r .phase) ≡ false
+    → SealEnd v r out n (step e (Call.Final out))
 seal-end v e r w out n passed no-open =
-    subst (λ (x : SparkleEngine). SealEnd v r out n (step x (Call.end out))) (sym (w .same-engine))
-    (let t = end-takes (paramsOf v) (r .phase) (heldOf (paramsOf v) r) (length out) n passed in by (t .0) (t .1))
+    subst (λ (x : SparkleEngine). SealEnd v r out n (step x (Call.Final out))) (sym (w .same-engine))
+    (let t = end-takes (paramsOf v) (r .phase) (readerHeld (paramsOf v) r) (length out) n passed in by (t .0) (t .1))
   where
-    by : (d : Direction) → Takes d (r .phase) → SealEnd v r out n (step (engineOf v r (w .mac) (w .count)) (Call.end out))
+    by : (d : Direction) → Active d (r .phase) → SealEnd v r out n (step (engineOf v r (w .mac) (w .count)) (Call.Final out))
     by Encrypt t = seal-step v r (w .mac) (w .count) (w .fits) (w .standing) out n passed t
-    by Decrypt t = absurd (let o = takes-opening t in let z : _≡_ {A = ℕ} 0 1 = cc in omega arith)
+    by Decrypt t = absurd (let o = active-opening t in let z : _≡_ {A = ℕ} 0 1 = cc in omega arith)
 
 pub open-end : (v : SparkleVariant) (e : SparkleEngine) (r : Reader) → Follows v e r → (out : List ℕ) (n : ℕ)
-    → endCheck (paramsOf v) (r .phase) (heldOf (paramsOf v) r) (length out) ≡ Ok n → opening (r .phase) ≡ true
-    → OpenEnd v r out n (verified (paramsOf v) (r .key) (r .nonce) (r .header) (r .body)) (step e (Call.end out))
+    → endCheck (paramsOf v) (r .phase) (readerHeld (paramsOf v) r) (length out) ≡ Ok n → opening (r .phase) ≡ true
+    → OpenEnd v r out n (verified (paramsOf v) (r .key) (r .nonce) (r .header) (r .body)) (step e (Call.Final out))
 open-end v e r w out n passed is-opening =
     subst (λ (x : SparkleEngine). OpenEnd v r out n (verified (paramsOf v) (r .key) (r .nonce) (r .header) (r .body))
-    (step x (Call.end out)))
+    (step x (Call.Final out)))
     (sym (w .same-engine))
-    (let t = end-takes (paramsOf v) (r .phase) (heldOf (paramsOf v) r) (length out) n passed in by (t .0) (t .1))
+    (let t = end-takes (paramsOf v) (r .phase) (readerHeld (paramsOf v) r) (length out) n passed in by (t .0) (t .1))
   where
-    by : (d : Direction) → Takes d (r .phase)
+    by : (d : Direction) → Active d (r .phase)
         → OpenEnd v r out n (verified (paramsOf v) (r .key) (r .nonce) (r .header) (r .body))
-        (step (engineOf v r (w .mac) (w .count)) (Call.end out))
-    by Encrypt t = absurd (let o = takes-opening t in let z : _≡_ {A = ℕ} 0 1 = cc in omega arith)
+        (step (engineOf v r (w .mac) (w .count)) (Call.Final out))
+    by Encrypt t = absurd (let o = active-opening t in let z : _≡_ {A = ℕ} 0 1 = cc in omega arith)
     by Decrypt t = open-step v r (w .mac) (w .count) (w .fits) (w .standing) out n passed t
 
 -- an end that is refused by its checks answers that refusal
@@ -330,8 +330,8 @@ final-refused (Ok n) x e h = absurd (let z : _≡_ {A = ℕ} 0 1 = cc in omega a
 final-refused (Err y) x e h = h
 
 pub end-refused : (v : SparkleVariant) (e : SparkleEngine) (r : Reader) → Follows v e r → (out : List ℕ) (x : AeadError)
-    → endCheck (paramsOf v) (r .phase) (heldOf (paramsOf v) r) (length out) ≡ Err x
-    → step e (Call.end out) .outcome ≡ Outcome.no (refusal x)
+    → endCheck (paramsOf v) (r .phase) (readerHeld (paramsOf v) r) (length out) ≡ Err x
+    → step e (Call.Final out) .outcome ≡ Outcome.no (refusal x)
 unfolding step doFinal
 end-refused v e r w out x h =
     let K = engineOf v r (w .mac) (w .count) in
@@ -339,22 +339,22 @@ end-refused v e r w out x h =
     ∙ ap outcome (final-refused (finalAnswer K (length out)) x K (final-answer v r (w .mac) (w .count) (length out) ∙ h))
 
 pub end-ended : (v : SparkleVariant) (e : SparkleEngine) (r : Reader) → Follows v e r → (out : List ℕ) (n : ℕ)
-    → endCheck (paramsOf v) (r .phase) (heldOf (paramsOf v) r) (length out) ≡ Ok n
-    → Ended v r (cond (opening (r .phase)) (verified (paramsOf v) (r .key) (r .nonce) (r .header) (r .body)) true)
-    (step e (Call.end out) .engine)
+    → endCheck (paramsOf v) (r .phase) (readerHeld (paramsOf v) r) (length out) ≡ Ok n
+    → EndsWith v r (cond (opening (r .phase)) (verified (paramsOf v) (r .key) (r .nonce) (r .header) (r .body)) true)
+    (step e (Call.Final out) .engine)
 end-ended v e r w out n passed =
-    subst (λ (x : SparkleEngine). Ended v r good (step x (Call.end out) .engine)) (sym (w .same-engine))
-    (let t = end-takes (paramsOf v) (r .phase) (heldOf (paramsOf v) r) (length out) n passed in by (t .0) (t .1))
+    subst (λ (x : SparkleEngine). EndsWith v r good (step x (Call.Final out) .engine)) (sym (w .same-engine))
+    (let t = end-takes (paramsOf v) (r .phase) (readerHeld (paramsOf v) r) (length out) n passed in by (t .0) (t .1))
   where
     good : Bool
     good = cond (opening (r .phase)) (verified (paramsOf v) (r .key) (r .nonce) (r .header) (r .body)) true
 
-    by : (d : Direction) → Takes d (r .phase)
-        → Ended v r good (step (engineOf v r (w .mac) (w .count)) (Call.end out) .engine)
+    by : (d : Direction) → Active d (r .phase)
+        → EndsWith v r good (step (engineOf v r (w .mac) (w .count)) (Call.Final out) .engine)
     by Encrypt t =
-        ended-sealing v r _ (takes-opening t) (seal-engine-step v r (w .mac) (w .count) (w .fits)
+        ended-sealing v r _ (active-opening t) (seal-engine-step v r (w .mac) (w .count) (w .fits)
         (w .standing) out n passed t)
     by Decrypt t =
-        ended-opening v r _ (takes-opening t)
-        (takes-enough (paramsOf v) (sizes v) t (r .key) (r .nonce) (r .header) (r .body) (length out) n passed)
+        ended-opening v r _ (active-opening t)
+        (active-enough (paramsOf v) (sizes v) t (r .key) (r .nonce) (r .header) (r .body) (length out) n passed)
         (open-engine-step v r (w .mac) (w .count) (w .fits) (w .standing) out n passed t)

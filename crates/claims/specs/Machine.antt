@@ -92,14 +92,14 @@ endSteps (Data _) p before d r = steps p (length (r .header)) (messageLength d p
 endSteps (Final _) p before d r = before
 
 abbrev pub finalSteps : Call → Phase → Params → ℕ → Direction → Reader → ℕ
-finalSteps (Call.start _ key nonce size header) phase p before d r = before
-finalSteps (Call.header input) phase p before d r = before
-finalSteps (Call.message input out) phase p before d r = before
-finalSteps (Call.end out) phase p before d r = endSteps phase p before d r
-finalSteps Call.reset phase p before d r = startSteps p (length (r .initial))
-finalSteps Call.tag phase p before d r = before
-finalSteps (Call.update n) phase p before d r = before
-finalSteps (Call.output n) phase p before d r = before
+finalSteps (Call.Init _ key nonce size header) phase p before d r = before
+finalSteps (Call.Aad input) phase p before d r = before
+finalSteps (Call.Data input out) phase p before d r = before
+finalSteps (Call.Final out) phase p before d r = endSteps phase p before d r
+finalSteps Call.Reset phase p before d r = startSteps p (length (r .initial))
+finalSteps Call.Mac phase p before d r = before
+finalSteps (Call.Update n) phase p before d r = before
+finalSteps (Call.Output n) phase p before d r = before
 
 abbrev pub stepsIn : Phase → Phase → Params → ℕ → Call → Reader → ℕ
 stepsIn Uninitialized old p before c r = 0
@@ -122,15 +122,15 @@ pub record Piece : Type 0 where
   pub out : List ℕ
 
 abbrev pub dataCalls : List Piece → List ℕ → List Call
-dataCalls [] out = Call.end out ∷ []
-dataCalls (x ∷ pieces) out = Call.message (x .input) (x .out) ∷ dataCalls pieces out
+dataCalls [] out = Call.Final out ∷ []
+dataCalls (x ∷ pieces) out = Call.Data (x .input) (x .out) ∷ dataCalls pieces out
 
 abbrev pub joined : List Piece → List ℕ
 joined [] = []
 joined (x ∷ pieces) = x .input ++ joined pieces
 
 abbrev pub pieceCalls : Direction → (key nonce header : List ℕ) (size : ℕ) → List Piece → List ℕ → List Call
-pieceCalls d key nonce header size pieces out = Call.start d key nonce size header ∷ dataCalls pieces out
+pieceCalls d key nonce header size pieces out = Call.Init d key nonce size header ∷ dataCalls pieces out
 
 pub data AllOk : List Line → Type 0 where
   none : AllOk []
@@ -138,7 +138,7 @@ pub data AllOk : List Line → Type 0 where
 
 pub record Demand2 (m : Machine) : Type 0 where
   -- every call after every list is answered as the tables say
-  pub answers : (v : SparkleVariant) (before : List Call) (c : Call) → (c ≡ Call.tag → ⊥)
+  pub answers : (v : SparkleVariant) (before : List Call) (c : Call) → (c ≡ Call.Mac → ⊥)
       → m .step (after m (m .new v) before) c .line .outcome ≡ answerOf (paramsOf v) (reader v before) c
   -- however the data is cut, a sealing without refusal writes what the specification gives
   pub seals : (v : SparkleVariant) (key nonce header : List ℕ) (size : ℕ) (pieces : List Piece) (out : List ℕ)
@@ -155,14 +155,14 @@ pub record Demand2 (m : Machine) : Type 0 where
       → handedOf m (m .new v) [] calls ≡ released (paramsOf v) (reader v calls)
   -- and an end that is not refused completes them
   pub completed : (v : SparkleVariant) (calls : List Call) (out : List ℕ) (n : ℕ)
-      → m .step (after m (m .new v) calls) (Call.end out) .line .outcome ≡ ok n
-      → handedOf m (m .new v) [] (calls ++ (Call.end out ∷ [])) ≡ finishedBytes (paramsOf v) (reader v calls)
+      → m .step (after m (m .new v) calls) (Call.Final out) .line .outcome ≡ ok n
+      → handedOf m (m .new v) [] (calls ++ (Call.Final out ∷ [])) ≡ finishedBytes (paramsOf v) (reader v calls)
   -- on every line a tag can be read where the calls before say so, and mac counts it
   pub shown : (v : SparkleVariant) (calls : List Call)
       → map (λ (l : Line). l .readable) (sheetOf m v calls) ≡ shownTags (paramsOf v) newReader false calls
   pub mac-counts : (v : SparkleVariant) (before : List Call)
-      → m .step (after m (m .new v) before) Call.tag .line .outcome
-      ≡ ok (cond (m .step (after m (m .new v) before) Call.tag .line .readable) (paramsOf v .key) 0)
+      → m .step (after m (m .new v) before) Call.Mac .line .outcome
+      ≡ ok (cond (m .step (after m (m .new v) before) Call.Mac .line .readable) (paramsOf v .key) 0)
   -- the steps of every line are the formula's
   pub counted : (v : SparkleVariant) (calls : List Call)
       → map (λ (l : Line). l .steps) (sheetOf m v calls) ≡ counts (paramsOf v) newReader 0 calls

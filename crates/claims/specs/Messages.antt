@@ -21,8 +21,8 @@ use Rattle.tc_sparkle_aead.specs.Engine.{zeros, noMac}
 use Rattle.tc_sparkle_aead.specs.Calls.{plainOf, readable, macOf, stepsNow}
 use Rattle.tc_aead_cipher.specs.Call.{Call}
 use Rattle.tc_aead_cipher.specs.Outcome.{Outcome, outcome, startOutcome}
-use Rattle.tc_sparkle_aead.specs.Sheet.{Left, step, runFrom, run}
-use Rattle.claims.specs.Reader.{Reader, heldOf, repeated, read}
+use Rattle.tc_sparkle_aead.specs.Sheet.{StepResult, step, runFrom, run}
+use Rattle.claims.specs.Reader.{Reader, readerHeld, repeated, read}
 
 -- ---- Lists of calls
 
@@ -36,7 +36,7 @@ abbrev pub countOf : Outcome → ℕ
 countOf (Outcome.ok n) = n
 countOf (Outcome.no values) = 0
 
-unfoldable pub wrote : Left → List ℕ
+unfoldable pub wrote : StepResult → List ℕ
 wrote l = take (countOf (l .outcome)) (l .buffer)
 
 -- What the calls of a list wrote, one after the other.
@@ -46,24 +46,24 @@ outputs e (c ∷ calls) = wrote (step e c) ++ outputs (step e c .engine) calls
 
 -- What a header call and a data call bring.
 abbrev pub headerIn : Call → List ℕ
-headerIn (Call.start d key nonce size h) = []
-headerIn (Call.header input) = input
-headerIn (Call.message input out) = []
-headerIn (Call.end out) = []
-headerIn Call.reset = []
-headerIn Call.tag = []
-headerIn (Call.update n) = []
-headerIn (Call.output n) = []
+headerIn (Call.Init d key nonce size h) = []
+headerIn (Call.Aad input) = input
+headerIn (Call.Data input out) = []
+headerIn (Call.Final out) = []
+headerIn Call.Reset = []
+headerIn Call.Mac = []
+headerIn (Call.Update n) = []
+headerIn (Call.Output n) = []
 
 abbrev pub dataOf : Call → List ℕ
-dataOf (Call.start d key nonce size h) = []
-dataOf (Call.header input) = []
-dataOf (Call.message input out) = input
-dataOf (Call.end out) = []
-dataOf Call.reset = []
-dataOf Call.tag = []
-dataOf (Call.update n) = []
-dataOf (Call.output n) = []
+dataOf (Call.Init d key nonce size h) = []
+dataOf (Call.Aad input) = []
+dataOf (Call.Data input out) = input
+dataOf (Call.Final out) = []
+dataOf Call.Reset = []
+dataOf Call.Mac = []
+dataOf (Call.Update n) = []
+dataOf (Call.Output n) = []
 
 -- What the header calls and the data calls of a list bring.
 abbrev pub headerBytes : List Call → List ℕ
@@ -76,43 +76,43 @@ dataBytes (c ∷ calls) = dataOf c ++ dataBytes calls
 
 -- Header calls and data calls, with queries and mac between them.
 abbrev pub HeaderCall : Call → Type 0
-HeaderCall (Call.start d key nonce size h) = ⊥
-HeaderCall (Call.header input) = Unit {0}
-HeaderCall (Call.message input out) = ⊥
-HeaderCall (Call.end out) = ⊥
-HeaderCall Call.reset = ⊥
-HeaderCall Call.tag = Unit {0}
-HeaderCall (Call.update n) = Unit {0}
-HeaderCall (Call.output n) = Unit {0}
+HeaderCall (Call.Init d key nonce size h) = ⊥
+HeaderCall (Call.Aad input) = Unit {0}
+HeaderCall (Call.Data input out) = ⊥
+HeaderCall (Call.Final out) = ⊥
+HeaderCall Call.Reset = ⊥
+HeaderCall Call.Mac = Unit {0}
+HeaderCall (Call.Update n) = Unit {0}
+HeaderCall (Call.Output n) = Unit {0}
 
 abbrev pub DataCall : Call → Type 0
-DataCall (Call.start d key nonce size h) = ⊥
-DataCall (Call.header input) = ⊥
-DataCall (Call.message input out) = Unit {0}
-DataCall (Call.end out) = ⊥
-DataCall Call.reset = ⊥
-DataCall Call.tag = Unit {0}
-DataCall (Call.update n) = Unit {0}
-DataCall (Call.output n) = Unit {0}
+DataCall (Call.Init d key nonce size h) = ⊥
+DataCall (Call.Aad input) = ⊥
+DataCall (Call.Data input out) = Unit {0}
+DataCall (Call.Final out) = ⊥
+DataCall Call.Reset = ⊥
+DataCall Call.Mac = Unit {0}
+DataCall (Call.Update n) = Unit {0}
+DataCall (Call.Output n) = Unit {0}
 
 -- A message from start to end: header calls, then data calls, with queries and mac anywhere between.
 abbrev pub messageCalls : Direction → (key nonce : List ℕ) → ℕ → (initial : List ℕ) → List Call → List Call
     → (out : List ℕ) → List Call
-messageCalls d key nonce size initial hs ms out = Call.start d key nonce size initial ∷ ((hs ++ ms) ++ (Call.end out ∷ []))
+messageCalls d key nonce size initial hs ms out = Call.Init d key nonce size initial ∷ ((hs ++ ms) ++ (Call.Final out ∷ []))
 
 -- ---- Room and acceptance
 
 -- The query answers a length, and the output has at least that length.
 abbrev pub RoomFor : SparkleEngine → Call → Type 0
-RoomFor e (Call.start d key nonce size h) = Unit {0}
-RoomFor e (Call.header input) = Unit {0}
-RoomFor e (Call.message input out) =
-    (n : ℕ) × (step e (Call.update (length input)) .outcome ≡ Outcome.ok n) × (n ≤ length out)
-RoomFor e (Call.end out) = (n : ℕ) × (step e (Call.output 0) .outcome ≡ Outcome.ok n) × (n ≤ length out)
-RoomFor e Call.reset = Unit {0}
-RoomFor e Call.tag = Unit {0}
-RoomFor e (Call.update n) = Unit {0}
-RoomFor e (Call.output n) = Unit {0}
+RoomFor e (Call.Init d key nonce size h) = Unit {0}
+RoomFor e (Call.Aad input) = Unit {0}
+RoomFor e (Call.Data input out) =
+    (n : ℕ) × (step e (Call.Update (length input)) .outcome ≡ Outcome.ok n) × (n ≤ length out)
+RoomFor e (Call.Final out) = (n : ℕ) × (step e (Call.Output 0) .outcome ≡ Outcome.ok n) × (n ≤ length out)
+RoomFor e Call.Reset = Unit {0}
+RoomFor e Call.Mac = Unit {0}
+RoomFor e (Call.Update n) = Unit {0}
+RoomFor e (Call.Output n) = Unit {0}
 
 abbrev pub Rooms : SparkleEngine → List Call → Type 0
 Rooms e [] = Unit {0}
@@ -121,29 +121,29 @@ Rooms e (c ∷ calls) = RoomFor e c × Rooms (step e c .engine) calls
 -- Outputs that have room whatever the engine holds: at most 64 bytes are held, and a tag has at most 32. The second part
 -- follows from the first for every output that is a slice, since a slice has fewer than 2^64 bytes.
 abbrev pub Ample : Call → Type 0
-Ample (Call.start d key nonce size h) = Unit {0}
-Ample (Call.header input) = Unit {0}
-Ample (Call.message input out) = (length input + 64 ≤ length out) × (length input + 64 < 2 ^ 64)
-Ample (Call.end out) = 96 ≤ length out
-Ample Call.reset = Unit {0}
-Ample Call.tag = Unit {0}
-Ample (Call.update n) = Unit {0}
-Ample (Call.output n) = Unit {0}
+Ample (Call.Init d key nonce size h) = Unit {0}
+Ample (Call.Aad input) = Unit {0}
+Ample (Call.Data input out) = (length input + 64 ≤ length out) × (length input + 64 < 2 ^ 64)
+Ample (Call.Final out) = 96 ≤ length out
+Ample Call.Reset = Unit {0}
+Ample Call.Mac = Unit {0}
+Ample (Call.Update n) = Unit {0}
+Ample (Call.Output n) = Unit {0}
 
 -- A call is accepted; of a query nothing is asked.
-abbrev pub Taken : Call → Outcome → Type 0
-Taken (Call.start d key nonce size h) o = (n : ℕ) × (o ≡ Outcome.ok n)
-Taken (Call.header input) o = (n : ℕ) × (o ≡ Outcome.ok n)
-Taken (Call.message input out) o = (n : ℕ) × (o ≡ Outcome.ok n)
-Taken (Call.end out) o = (n : ℕ) × (o ≡ Outcome.ok n)
-Taken Call.reset o = (n : ℕ) × (o ≡ Outcome.ok n)
-Taken Call.tag o = (n : ℕ) × (o ≡ Outcome.ok n)
-Taken (Call.update k) o = Unit {0}
-Taken (Call.output k) o = Unit {0}
+abbrev pub IsAccepted : Call → Outcome → Type 0
+IsAccepted (Call.Init d key nonce size h) o = (n : ℕ) × (o ≡ Outcome.ok n)
+IsAccepted (Call.Aad input) o = (n : ℕ) × (o ≡ Outcome.ok n)
+IsAccepted (Call.Data input out) o = (n : ℕ) × (o ≡ Outcome.ok n)
+IsAccepted (Call.Final out) o = (n : ℕ) × (o ≡ Outcome.ok n)
+IsAccepted Call.Reset o = (n : ℕ) × (o ≡ Outcome.ok n)
+IsAccepted Call.Mac o = (n : ℕ) × (o ≡ Outcome.ok n)
+IsAccepted (Call.Update k) o = Unit {0}
+IsAccepted (Call.Output k) o = Unit {0}
 
 abbrev pub Accepts : SparkleEngine → List Call → Type 0
 Accepts e [] = Unit {0}
-Accepts e (c ∷ calls) = Taken c (step e c .outcome) × Accepts (step e c .engine) calls
+Accepts e (c ∷ calls) = IsAccepted c (step e c .outcome) × Accepts (step e c .engine) calls
 
 -- ---- Whole messages with room
 
@@ -157,10 +157,10 @@ pub record Completes (e : SparkleEngine) (calls : List Call) (bytes tag : List �
 -- Up to the end all is accepted; the end answers 6, writes zeros, and leaves no tag to read.
 pub record Rejects (e : SparkleEngine) (calls : List Call) (out : List ℕ) (count : ℕ) : Type 0 where
   pub accepted : Accepts e calls
-  pub outcome-is : step (runFrom e calls) (Call.end out) .outcome ≡ Outcome.no (6 ∷ [])
-  pub zeros-are : (n : ℕ) × (step (runFrom e calls) (Call.end out) .buffer ≡ zeros n ++ drop n out)
-  pub no-tag : macOf (step (runFrom e calls) (Call.end out) .engine) ≡ noMac
-  pub steps-are : stepsNow (step (runFrom e calls) (Call.end out) .engine) ≡ count
+  pub outcome-is : step (runFrom e calls) (Call.Final out) .outcome ≡ Outcome.no (6 ∷ [])
+  pub zeros-are : (n : ℕ) × (step (runFrom e calls) (Call.Final out) .buffer ≡ zeros n ++ drop n out)
+  pub no-tag : macOf (step (runFrom e calls) (Call.Final out) .engine) ≡ noMac
+  pub steps-are : stepsNow (step (runFrom e calls) (Call.Final out) .engine) ≡ count
 
 -- What one list of calls seals, another opens: under the same key, nonce and header, with the sealed bytes for data, both
 -- cut anyhow and with room, both are accepted, and the opening writes the data that was sealed.
@@ -178,14 +178,14 @@ RefusedByCheck o = (values : List ℕ) × (o ≡ Outcome.no values) × (values �
 
 -- Header calls, data calls, queries, mac, and ends that the checks refuse.
 abbrev pub Between : SparkleEngine → Call → Type 0
-Between e (Call.start d key nonce size h) = ⊥
-Between e (Call.header input) = Unit {0}
-Between e (Call.message input out) = Unit {0}
-Between e (Call.end out) = RefusedByCheck (step e (Call.end out) .outcome)
-Between e Call.reset = ⊥
-Between e Call.tag = Unit {0}
-Between e (Call.update n) = Unit {0}
-Between e (Call.output n) = Unit {0}
+Between e (Call.Init d key nonce size h) = ⊥
+Between e (Call.Aad input) = Unit {0}
+Between e (Call.Data input out) = Unit {0}
+Between e (Call.Final out) = RefusedByCheck (step e (Call.Final out) .outcome)
+Between e Call.Reset = ⊥
+Between e Call.Mac = Unit {0}
+Between e (Call.Update n) = Unit {0}
+Between e (Call.Output n) = Unit {0}
 
 abbrev pub AllBetween : SparkleEngine → List Call → Type 0
 AllBetween e [] = Unit {0}
@@ -196,18 +196,18 @@ abbrev pub ifOk : Outcome → List ℕ → List ℕ
 ifOk (Outcome.ok n) l = l
 ifOk (Outcome.no values) l = []
 
-unfoldable pub takenHeader : SparkleEngine → List Call → List ℕ
-takenHeader e [] = []
-takenHeader e (c ∷ calls) = ifOk (step e c .outcome) (headerIn c) ++ takenHeader (step e c .engine) calls
+unfoldable pub acceptedHeader : SparkleEngine → List Call → List ℕ
+acceptedHeader e [] = []
+acceptedHeader e (c ∷ calls) = ifOk (step e c .outcome) (headerIn c) ++ acceptedHeader (step e c .engine) calls
 
-unfoldable pub takenData : SparkleEngine → List Call → List ℕ
-takenData e [] = []
-takenData e (c ∷ calls) = ifOk (step e c .outcome) (dataOf c) ++ takenData (step e c .engine) calls
+unfoldable pub acceptedData : SparkleEngine → List Call → List ℕ
+acceptedData e [] = []
+acceptedData e (c ∷ calls) = ifOk (step e c .outcome) (dataOf c) ++ acceptedData (step e c .engine) calls
 
 -- The engine after a start.
-abbrev pub begunEngine : SparkleVariant → List Call → Direction → (key nonce : List ℕ) → ℕ
+abbrev pub startedEngine : SparkleVariant → List Call → Direction → (key nonce : List ℕ) → ℕ
     → (initial : List ℕ) → SparkleEngine
-begunEngine v before d key nonce size initial = step (run v before) (Call.start d key nonce size initial) .engine
+startedEngine v before d key nonce size initial = step (run v before) (Call.Init d key nonce size initial) .engine
 
 -- An opening's end is taken only for a verified packet, and then its calls give what the packet's body decrypts to.
 pub record OpenedUnrefused (v : SparkleVariant) (key nonce header packet bytes : List ℕ) : Type 0 where
@@ -218,14 +218,14 @@ pub record OpenedUnrefused (v : SparkleVariant) (key nonce header packet bytes :
 
 -- What is asked: every call but mac.
 abbrev pub Asked : Call → Type 0
-Asked (Call.start d key nonce size h) = Unit {0}
-Asked (Call.header input) = Unit {0}
-Asked (Call.message input out) = Unit {0}
-Asked (Call.end out) = Unit {0}
-Asked Call.reset = Unit {0}
-Asked Call.tag = ⊥
-Asked (Call.update n) = Unit {0}
-Asked (Call.output n) = Unit {0}
+Asked (Call.Init d key nonce size h) = Unit {0}
+Asked (Call.Aad input) = Unit {0}
+Asked (Call.Data input out) = Unit {0}
+Asked (Call.Final out) = Unit {0}
+Asked Call.Reset = Unit {0}
+Asked Call.Mac = ⊥
+Asked (Call.Update n) = Unit {0}
+Asked (Call.Output n) = Unit {0}
 
 -- An end: its refusal, or on an opening 6 where the packet is not verified, or its count.
 abbrev pub openOutcome : Bool → ℕ → Outcome
@@ -240,17 +240,17 @@ endOutcome (Ok n) false right = Outcome.ok n
 -- The outcome that document 01's tables give to a call, over what the reader keeps. Of mac nothing is asked here: its
 -- count goes by whether a tag can be read.
 unfoldable pub answerOf : Params → Reader → Call → Outcome
-answerOf p r (Call.start d key nonce size h) =
+answerOf p r (Call.Init d key nonce size h) =
     startOutcome (startCheck p d (length key) (length nonce) size (repeated r key nonce))
-answerOf p r (Call.header input) = outcome (aadCheck (r .phase) (length input))
-answerOf p r (Call.message input out) = outcome (dataCheck p (r .phase) (heldOf p r) (length input) (length out))
-answerOf p r (Call.end out) =
-    endOutcome (endCheck p (r .phase) (heldOf p r) (length out)) (opening (r .phase))
+answerOf p r (Call.Aad input) = outcome (aadCheck (r .phase) (length input))
+answerOf p r (Call.Data input out) = outcome (dataCheck p (r .phase) (readerHeld p r) (length input) (length out))
+answerOf p r (Call.Final out) =
+    endOutcome (endCheck p (r .phase) (readerHeld p r) (length out)) (opening (r .phase))
     (verified p (r .key) (r .nonce) (r .header) (r .body))
-answerOf p r Call.reset = Outcome.ok 0
-answerOf p r Call.tag = Outcome.ok 0
-answerOf p r (Call.update n) = outcome (updateLen p (r .phase) (heldOf p r) n)
-answerOf p r (Call.output n) = outcome (totalLen p (r .phase) (heldOf p r) n)
+answerOf p r Call.Reset = Outcome.ok 0
+answerOf p r Call.Mac = Outcome.ok 0
+answerOf p r (Call.Update n) = outcome (updateLen p (r .phase) (readerHeld p r) n)
+answerOf p r (Call.Output n) = outcome (totalLen p (r .phase) (readerHeld p r) n)
 
 -- ---- Call by call: the bytes, the tag and the steps
 
@@ -270,14 +270,14 @@ pub record Writes (before after out buffer : List ℕ) (n : ℕ) : Type 0 where
 
 -- The bytes that the calls of a list have handed out since the last start or reset, behind those of `before`.
 abbrev pub handedBy : Call → (before more : List ℕ) → List ℕ
-handedBy (Call.start d key nonce size h) before more = []
-handedBy (Call.header input) before more = before ++ more
-handedBy (Call.message input out) before more = before ++ more
-handedBy (Call.end out) before more = before ++ more
-handedBy Call.reset before more = []
-handedBy Call.tag before more = before ++ more
-handedBy (Call.update n) before more = before ++ more
-handedBy (Call.output n) before more = before ++ more
+handedBy (Call.Init d key nonce size h) before more = []
+handedBy (Call.Aad input) before more = before ++ more
+handedBy (Call.Data input out) before more = before ++ more
+handedBy (Call.Final out) before more = before ++ more
+handedBy Call.Reset before more = []
+handedBy Call.Mac before more = before ++ more
+handedBy (Call.Update n) before more = before ++ more
+handedBy (Call.Output n) before more = before ++ more
 
 unfoldable pub handed : SparkleEngine → (before : List ℕ) → List Call → List ℕ
 handed e before [] = before
@@ -314,16 +314,16 @@ shownByEnd (Ok n) true right before = right
 shownByEnd (Ok n) false right before = true
 
 unfoldable pub shownAfter : Params → Reader → Bool → Call → Bool
-shownAfter p r before (Call.start d key nonce size h) = false
-shownAfter p r before (Call.header input) = before
-shownAfter p r before (Call.message input out) = before
-shownAfter p r before (Call.end out) =
-    shownByEnd (endCheck p (r .phase) (heldOf p r) (length out)) (opening (r .phase))
+shownAfter p r before (Call.Init d key nonce size h) = false
+shownAfter p r before (Call.Aad input) = before
+shownAfter p r before (Call.Data input out) = before
+shownAfter p r before (Call.Final out) =
+    shownByEnd (endCheck p (r .phase) (readerHeld p r) (length out)) (opening (r .phase))
     (verified p (r .key) (r .nonce) (r .header) (r .body)) before
-shownAfter p r before Call.reset = false
-shownAfter p r before Call.tag = before
-shownAfter p r before (Call.update n) = before
-shownAfter p r before (Call.output n) = before
+shownAfter p r before Call.Reset = false
+shownAfter p r before Call.Mac = before
+shownAfter p r before (Call.Update n) = before
+shownAfter p r before (Call.Output n) = before
 
 -- The same after each call of a list.
 unfoldable pub shownTags : Params → Reader → Bool → List Call → List Bool
@@ -333,7 +333,7 @@ shownTags p r before (c ∷ calls) =
 
 -- The tag and the steps of an end past its checks: a sealing's data is its message, an opening's what its packet
 -- decrypts to.
-pub record Ended (v : SparkleVariant) (r : Reader) (good : Bool) (e : SparkleEngine) : Type 0 where
+pub record EndsWith (v : SparkleVariant) (r : Reader) (good : Bool) (e : SparkleEngine) : Type 0 where
   pub mac-is : macOf e
       ≡ cond good (readable (tag (paramsOf v) (r .key) (r .nonce) (r .header) (messageOf (paramsOf v) r))) noMac
   pub steps-are : stepsNow e ≡ steps (paramsOf v) (length (r .header)) (length (messageOf (paramsOf v) r)) % 2 ^ 64
@@ -366,11 +366,11 @@ stepsAfterInit p (Final d) initial = p .big + leading p (length initial) * p .sl
 
 -- Neither init nor reset.
 abbrev pub Keeps : Call → Type 0
-Keeps (Call.start d key nonce size h) = ⊥
-Keeps (Call.header input) = Unit {0}
-Keeps (Call.message input out) = Unit {0}
-Keeps (Call.end out) = Unit {0}
-Keeps Call.reset = ⊥
-Keeps Call.tag = Unit {0}
-Keeps (Call.update n) = Unit {0}
-Keeps (Call.output n) = Unit {0}
+Keeps (Call.Init d key nonce size h) = ⊥
+Keeps (Call.Aad input) = Unit {0}
+Keeps (Call.Data input out) = Unit {0}
+Keeps (Call.Final out) = Unit {0}
+Keeps Call.Reset = ⊥
+Keeps Call.Mac = Unit {0}
+Keeps (Call.Update n) = Unit {0}
+Keeps (Call.Output n) = Unit {0}

@@ -46,11 +46,11 @@ abbrev pub newReader : Reader
 newReader = record { phase = Uninitialized; loaded = false; key = []; nonce = []; initial = []; header = []; body = [] }
 
 -- The verdict at a call and the reader afterwards.
-pub record Noted : Type 0 where
+pub record ReadResult : Type 0 where
   pub verdict : Verdict
   pub reader : Reader
 
-abbrev pub nothing : Reader → Noted
+abbrev pub nothing : Reader → ReadResult
 nothing r = record { verdict = None; reader = r }
 
 -- The same reader in another phase, with another header and other data.
@@ -77,8 +77,8 @@ headerPhase d [] = Init d
 headerPhase d (x ∷ header) = Aad d
 
 -- Document 01's d - r. The checks count it in Data alone (heldIn).
-abbrev pub heldOf : Params → Reader → ℕ
-heldOf p r =
+abbrev pub readerHeld : Params → Reader → ℕ
+readerHeld p r =
     length (r .body) - ready (p .rate) (keep p (r .phase)) (length (r .body)) * p .rate
 
 -- Whether a pair equals the last loaded.
@@ -97,7 +97,7 @@ refusedVerdict (InvalidNonceLength n) d repeats = None
 refusedVerdict (InvalidMacSize n) d repeats = None
 refusedVerdict NonceReuse d repeats = startVerdict d repeats
 
-abbrev pub readStart : AeadInitResult → Reader → Direction → List ℕ → List ℕ → List ℕ → Noted
+abbrev pub readStart : AeadInitResult → Reader → Direction → List ℕ → List ℕ → List ℕ → ReadResult
 readStart (StartErr x) r d key nonce h =
     record { verdict = refusedVerdict x d (repeated r key nonce); reader = forgotten r }
 readStart StartOk r d key nonce h =
@@ -132,17 +132,17 @@ dataPhase (Data d) = Data d
 dataPhase (Final d) = Final d
 
 -- An accepted header call appends its input to the header, an accepted data call to the data.
-abbrev pub readHeader : AeadResult → Reader → List ℕ → Noted
+abbrev pub readHeader : AeadResult → Reader → List ℕ → ReadResult
 readHeader (Err x) r input = nothing r
 readHeader (Ok n) r input = nothing (inPhase r (aadPhase (r .phase) input) (r .header ++ input) (r .body))
 
-abbrev pub readMessage : AeadResult → Reader → List ℕ → Noted
+abbrev pub readMessage : AeadResult → Reader → List ℕ → ReadResult
 readMessage (Err x) r input = nothing r
 readMessage (Ok n) r input = nothing (inPhase r (dataPhase (r .phase)) (r .header) (r .body ++ input))
 
 -- An opening's end past its checks notes whether the data's last tag bytes are the specification's tag, under the loaded
 -- pair and the header, for the message that the bytes before them decrypt to. An end that is taken leads to Final.
-abbrev pub endBy : Direction → Params → Reader → Noted
+abbrev pub endBy : Direction → Params → Reader → ReadResult
 endBy Encrypt p r = nothing (inPhase r (Final Encrypt) (r .header) (r .body))
 endBy Decrypt p r =
     record {
@@ -150,14 +150,14 @@ endBy Decrypt p r =
       reader = inPhase r (Final Decrypt) (r .header) (r .body);
     }
 
-abbrev pub endIn : Phase → Params → Reader → Noted
+abbrev pub endIn : Phase → Params → Reader → ReadResult
 endIn Uninitialized p r = nothing r
 endIn (Init d) p r = endBy d p r
 endIn (Aad d) p r = endBy d p r
 endIn (Data d) p r = endBy d p r
 endIn (Final d) p r = nothing r
 
-abbrev pub readEnd : AeadResult → Params → Reader → Noted
+abbrev pub readEnd : AeadResult → Params → Reader → ReadResult
 readEnd (Err x) p r = nothing r
 readEnd (Ok n) p r = endIn (r .phase) p r
 
@@ -176,17 +176,17 @@ resetIn (Final Encrypt) r = r
 resetIn (Final Decrypt) r = restarted Decrypt r
 
 -- A call.
-unfoldable pub read : Params → Reader → Call → Noted
-read p r (Call.start d key nonce size h) =
+unfoldable pub read : Params → Reader → Call → ReadResult
+read p r (Call.Init d key nonce size h) =
     readStart (startCheck p d (length key) (length nonce) size (repeated r key nonce)) r d key nonce h
-read p r (Call.header input) = readHeader (aadCheck (r .phase) (length input)) r input
-read p r (Call.message input out) =
-    readMessage (dataCheck p (r .phase) (heldOf p r) (length input) (length out)) r input
-read p r (Call.end out) = readEnd (endCheck p (r .phase) (heldOf p r) (length out)) p r
-read p r Call.reset = nothing (resetIn (r .phase) r)
-read p r Call.tag = nothing r
-read p r (Call.update n) = nothing r
-read p r (Call.output n) = nothing r
+read p r (Call.Aad input) = readHeader (aadCheck (r .phase) (length input)) r input
+read p r (Call.Data input out) =
+    readMessage (dataCheck p (r .phase) (readerHeld p r) (length input) (length out)) r input
+read p r (Call.Final out) = readEnd (endCheck p (r .phase) (readerHeld p r) (length out)) p r
+read p r Call.Reset = nothing (resetIn (r .phase) r)
+read p r Call.Mac = nothing r
+read p r (Call.Update n) = nothing r
+read p r (Call.Output n) = nothing r
 
 -- The verdicts of a list of calls, and the reader after it.
 unfoldable pub notes : Params → Reader → List Call → List Verdict

@@ -22,30 +22,30 @@ use Rattle.tc_aead_cipher.specs.Outcome.Outcome.{ok, no}
 -- ---- Where a number comes back
 
 -- The phases that take data and an end, by their direction.
-pub data Taking (d : Direction) : Phase → Type 0 where
-  in-init : Taking d (Init d)
-  in-aad : Taking d (Aad d)
-  in-data : Taking d (Data d)
+pub data Active (d : Direction) : Phase → Type 0 where
+  in-init : Active d (Init d)
+  in-aad : Active d (Aad d)
+  in-data : Active d (Data d)
 
 -- The phases by their direction; Uninitialized counts as sealing.
-pub data Facing : Direction → Phase → Type 0 where
-  no-message : Facing Encrypt Uninitialized
-  of-init : {d : Direction} → Facing d (Init d)
-  of-aad : {d : Direction} → Facing d (Aad d)
-  of-data : {d : Direction} → Facing d (Data d)
-  of-final : {d : Direction} → Facing d (Final d)
+pub data HasDirection : Direction → Phase → Type 0 where
+  no-message : HasDirection Encrypt Uninitialized
+  of-init : {d : Direction} → HasDirection d (Init d)
+  of-aad : {d : Direction} → HasDirection d (Aad d)
+  of-data : {d : Direction} → HasDirection d (Data d)
+  of-final : {d : Direction} → HasDirection d (Final d)
 
 -- The held bytes h: 0 outside Data; at most a block, on an opening a tag and a block.
-abbrev pub holds : Params → Phase → ℕ → ℕ
-holds p Uninitialized n = 0
-holds p (Init d) n = 0
-holds p (Aad d) n = 0
-holds p (Data Encrypt) n = min n (p .rate)
-holds p (Data Decrypt) n = min n (p .key + p .rate)
-holds p (Final d) n = 0
+abbrev pub heldAt : Params → Phase → ℕ → ℕ
+heldAt p Uninitialized n = 0
+heldAt p (Init d) n = 0
+heldAt p (Aad d) n = 0
+heldAt p (Data Encrypt) n = min n (p .rate)
+heldAt p (Data Decrypt) n = min n (p .key + p .rate)
+heldAt p (Final d) n = 0
 
-abbrev pub hOf : SparkleEngine → ℕ
-hOf e = holds (paramsOf (e .variant)) (e .current .phase) (e .current .held)
+abbrev pub engineHeld : SparkleEngine → ℕ
+engineHeld e = heldAt (paramsOf (e .variant)) (e .current .phase) (e .current .held)
 
 -- The variant's bytes: key and tag; nonce and block.
 abbrev pub keyOf : SparkleEngine → ℕ
@@ -74,55 +74,55 @@ outputSum Decrypt p sum = sum
 -- before it passed.
 pub data Refused (e : SparkleEngine) : Call → List ℕ → Type 0 where
   key-length : {d : Direction} {key nonce header : List ℕ} {size : ℕ} → (length key ≡ keyOf e → ⊥)
-      → Refused e (Call.start d key nonce size header) (1 ∷ (length key ∷ []))
+      → Refused e (Call.Init d key nonce size header) (1 ∷ (length key ∷ []))
   nonce-length : {d : Direction} {key nonce header : List ℕ} {size : ℕ} → length key ≡ keyOf e
-      → (length nonce ≡ rateOf e → ⊥) → Refused e (Call.start d key nonce size header) (2 ∷ (length nonce ∷ []))
+      → (length nonce ≡ rateOf e → ⊥) → Refused e (Call.Init d key nonce size header) (2 ∷ (length nonce ∷ []))
   mac-size : {d : Direction} {key nonce header : List ℕ} {size : ℕ} → length key ≡ keyOf e → length nonce ≡ rateOf e
-      → (size ≡ keyOf e → ⊥) → Refused e (Call.start d key nonce size header) (3 ∷ (size ∷ []))
-  data-room : {d : Direction} {input out : List ℕ} → Taking d (e .current .phase) → hOf e + length input < 2 ^ 64
-      → length out < dataWrites d (paramsOf (e .variant)) (hOf e + length input)
-      → Refused e (Call.message input out)
-      (4 ∷ (dataWrites d (paramsOf (e .variant)) (hOf e + length input) ∷ (length out ∷ [])))
-  end-room : {d : Direction} {out : List ℕ} → Taking d (e .current .phase)
-      → length out < endWrites d (paramsOf (e .variant)) (hOf e)
-      → Refused e (Call.end out) (4 ∷ (endWrites d (paramsOf (e .variant)) (hOf e) ∷ (length out ∷ [])))
-  no-tag : {out : List ℕ} → Taking Decrypt (e .current .phase) → hOf e < keyOf e
-      → Refused e (Call.end out) (5 ∷ (keyOf e ∷ (hOf e ∷ [])))
-  tag-differs : {out : List ℕ} → e .current .phase ≡ Data Decrypt → keyOf e ≤ hOf e → hOf e - keyOf e ≤ length out
-      → (receivedTag e ≡ openTag e → ⊥) → Refused e (Call.end out) (6 ∷ [])
-  data-sum : {d : Direction} {input out : List ℕ} → Taking d (e .current .phase) → 2 ^ 64 ≤ hOf e + length input
-      → Refused e (Call.message input out) (7 ∷ [])
-  update-sum : {n : ℕ} → 2 ^ 64 ≤ hOf e + n → Refused e (Call.update n) (7 ∷ [])
-  output-sum : {d : Direction} {n : ℕ} → Facing d (e .current .phase)
-      → 2 ^ 64 ≤ outputSum d (paramsOf (e .variant)) (hOf e + n) → Refused e (Call.output n) (7 ∷ [])
+      → (size ≡ keyOf e → ⊥) → Refused e (Call.Init d key nonce size header) (3 ∷ (size ∷ []))
+  data-room : {d : Direction} {input out : List ℕ} → Active d (e .current .phase) → engineHeld e + length input < 2 ^ 64
+      → length out < dataWrites d (paramsOf (e .variant)) (engineHeld e + length input)
+      → Refused e (Call.Data input out)
+      (4 ∷ (dataWrites d (paramsOf (e .variant)) (engineHeld e + length input) ∷ (length out ∷ [])))
+  end-room : {d : Direction} {out : List ℕ} → Active d (e .current .phase)
+      → length out < endWrites d (paramsOf (e .variant)) (engineHeld e)
+      → Refused e (Call.Final out) (4 ∷ (endWrites d (paramsOf (e .variant)) (engineHeld e) ∷ (length out ∷ [])))
+  no-tag : {out : List ℕ} → Active Decrypt (e .current .phase) → engineHeld e < keyOf e
+      → Refused e (Call.Final out) (5 ∷ (keyOf e ∷ (engineHeld e ∷ [])))
+  tag-differs : {out : List ℕ} → e .current .phase ≡ Data Decrypt → keyOf e ≤ engineHeld e → engineHeld e - keyOf e ≤ length out
+      → (receivedTag e ≡ openTag e → ⊥) → Refused e (Call.Final out) (6 ∷ [])
+  data-sum : {d : Direction} {input out : List ℕ} → Active d (e .current .phase) → 2 ^ 64 ≤ engineHeld e + length input
+      → Refused e (Call.Data input out) (7 ∷ [])
+  update-sum : {n : ℕ} → 2 ^ 64 ≤ engineHeld e + n → Refused e (Call.Update n) (7 ∷ [])
+  output-sum : {d : Direction} {n : ℕ} → HasDirection d (e .current .phase)
+      → 2 ^ 64 ≤ outputSum d (paramsOf (e .variant)) (engineHeld e + n) → Refused e (Call.Output n) (7 ∷ [])
   header-not-initialized : {input : List ℕ} → 0 < length input → e .current .phase ≡ Uninitialized
-      → Refused e (Call.header input) (8 ∷ [])
+      → Refused e (Call.Aad input) (8 ∷ [])
   data-not-initialized : {input out : List ℕ} → e .current .phase ≡ Uninitialized
-      → Refused e (Call.message input out) (8 ∷ [])
-  end-not-initialized : {out : List ℕ} → e .current .phase ≡ Uninitialized → Refused e (Call.end out) (8 ∷ [])
+      → Refused e (Call.Data input out) (8 ∷ [])
+  end-not-initialized : {out : List ℕ} → e .current .phase ≡ Uninitialized → Refused e (Call.Final out) (8 ∷ [])
   header-after-data : {d : Direction} {input : List ℕ} → 0 < length input → e .current .phase ≡ Data d
-      → Refused e (Call.header input) (9 ∷ [])
+      → Refused e (Call.Aad input) (9 ∷ [])
   header-finalized : {d : Direction} {input : List ℕ} → 0 < length input → e .current .phase ≡ Final d
-      → Refused e (Call.header input) (10 ∷ [])
+      → Refused e (Call.Aad input) (10 ∷ [])
   data-finalized : {d : Direction} {input out : List ℕ} → e .current .phase ≡ Final d
-      → Refused e (Call.message input out) (10 ∷ [])
-  end-finalized : {d : Direction} {out : List ℕ} → e .current .phase ≡ Final d → Refused e (Call.end out) (10 ∷ [])
+      → Refused e (Call.Data input out) (10 ∷ [])
+  end-finalized : {d : Direction} {out : List ℕ} → e .current .phase ≡ Final d → Refused e (Call.Final out) (10 ∷ [])
   nonce-reuse : {key nonce header : List ℕ} {size : ℕ} → length key ≡ keyOf e → length nonce ≡ rateOf e → size ≡ keyOf e
       → e .pair .loaded ≡ true → take (keyOf e) (e .pair .key) ≡ key → take (rateOf e) (e .pair .nonce) ≡ nonce
-      → Refused e (Call.start Encrypt key nonce size header) (11 ∷ [])
+      → Refused e (Call.Init Encrypt key nonce size header) (11 ∷ [])
 
 -- ---- What a number leaves
 
 -- The output buffer that a call lends, if it lends one.
 abbrev pub lent : Call → List ℕ
-lent (Call.start d key nonce size header) = []
-lent (Call.header input) = []
-lent (Call.message input out) = out
-lent (Call.end out) = out
-lent Call.reset = []
-lent Call.tag = []
-lent (Call.update n) = []
-lent (Call.output n) = []
+lent (Call.Init d key nonce size header) = []
+lent (Call.Aad input) = []
+lent (Call.Data input out) = out
+lent (Call.Final out) = out
+lent Call.Reset = []
+lent Call.Mac = []
+lent (Call.Update n) = []
+lent (Call.Output n) = []
 
 -- The numbers of a refused start, and the numbers after which nothing has changed; 6 is the eleventh.
 pub data OfStart : ℕ → Type 0 where
@@ -148,7 +148,7 @@ pub data Numbered : List ℕ → Type 0 where
 -- What every call comes back with: a count, or one of the eleven.
 pub data Returned : Outcome → Type 0 where
   work-done : (n : ℕ) → Returned (ok n)
-  one-of-eleven : {r : List ℕ} → Numbered r → Returned (no r)
+  numbered-refusal : {r : List ℕ} → Numbered r → Returned (no r)
 
 -- Everything wiped but the variant and the last loaded pair; the buffer, if one is lent, as it was.
 pub record Wiped (e : SparkleEngine) (c : Call) : Type 0 where
@@ -172,8 +172,8 @@ pub record Unchanged (e : SparkleEngine) (c : Call) : Type 0 where
 -- would have written.
 pub record Failed (e : SparkleEngine) (out : List ℕ) : Type 0 where
   pub phase : e .current .phase ≡ Data Decrypt
-  pub whole : keyOf e ≤ hOf e
-  pub engine : step e (Call.end out) .engine
+  pub whole : keyOf e ≤ engineHeld e
+  pub engine : step e (Call.Final out) .engine
       ≡ record {
         variant = e .variant;
         current = finalPoint Decrypt;
@@ -182,8 +182,8 @@ pub record Failed (e : SparkleEngine) (out : List ℕ) : Type 0 where
         mac = noMac;
         steps =
             record {
-              current = (e .steps .current + cond (ltb 0 (hOf e - keyOf e)) (paramsOf (e .variant) .big) 0) % 2 ^ 64;
+              current = (e .steps .current + cond (ltb 0 (engineHeld e - keyOf e)) (paramsOf (e .variant) .big) 0) % 2 ^ 64;
               initial = e .steps .initial;
             };
       }
-  pub buffer : step e (Call.end out) .buffer ≡ zeros (hOf e - keyOf e) ++ drop (hOf e - keyOf e) out
+  pub buffer : step e (Call.Final out) .buffer ≡ zeros (engineHeld e - keyOf e) ++ drop (engineHeld e - keyOf e) out

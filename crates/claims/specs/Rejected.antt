@@ -55,35 +55,35 @@ accepted (ok n) = true
 accepted (no r) = false
 
 abbrev pub skipStep : Bool → SparkleEngine → Call → Reply Flagged
-skipStep b e (Call.start d key nonce size header) =
-    let l = step e (Call.start d key nonce size header) in
+skipStep b e (Call.Init d key nonce size header) =
+    let l = step e (Call.Init d key nonce size header) in
     record { state = record { engine = l .engine; flag = false }; line = line l; buffer = l .buffer }
-skipStep b e (Call.header input) =
-    let l = step e (Call.header input) in
+skipStep b e (Call.Aad input) =
+    let l = step e (Call.Aad input) in
     record { state = record { engine = l .engine; flag = b }; line = line l; buffer = l .buffer }
-skipStep false e (Call.message input out) =
-    let l = step e (Call.message input out) in
+skipStep false e (Call.Data input out) =
+    let l = step e (Call.Data input out) in
     record { state = record { engine = l .engine; flag = accepted (l .outcome) }; line = line l; buffer = l .buffer }
-skipStep true e (Call.message input out) =
+skipStep true e (Call.Data input out) =
     record {
       state = record { engine = e; flag = true };
       line = record { outcome = ok 0; steps = stepsNow e; readable = false };
       buffer = out;
     }
-skipStep b e (Call.end out) =
-    let l = step e (Call.end out) in
+skipStep b e (Call.Final out) =
+    let l = step e (Call.Final out) in
     record { state = record { engine = l .engine; flag = b }; line = line l; buffer = l .buffer }
-skipStep b e Call.reset =
-    let l = step e Call.reset in
+skipStep b e Call.Reset =
+    let l = step e Call.Reset in
     record { state = record { engine = l .engine; flag = false }; line = line l; buffer = l .buffer }
-skipStep b e Call.tag =
-    let l = step e Call.tag in
+skipStep b e Call.Mac =
+    let l = step e Call.Mac in
     record { state = record { engine = l .engine; flag = b }; line = line l; buffer = l .buffer }
-skipStep b e (Call.update n) =
-    let l = step e (Call.update n) in
+skipStep b e (Call.Update n) =
+    let l = step e (Call.Update n) in
     record { state = record { engine = l .engine; flag = b }; line = line l; buffer = l .buffer }
-skipStep b e (Call.output n) =
-    let l = step e (Call.output n) in
+skipStep b e (Call.Output n) =
+    let l = step e (Call.Output n) in
     record { state = record { engine = l .engine; flag = b }; line = line l; buffer = l .buffer }
 
 abbrev pub skipping : Machine
@@ -111,25 +111,25 @@ inventing k =
 
 -- One saying AlreadyFinalized outside Final: the engine that answers 10 to every data call.
 abbrev pub finalStep : SparkleEngine → Call → Reply SparkleEngine
-finalStep e (Call.start d key nonce size header) =
-    let l = step e (Call.start d key nonce size header) in
+finalStep e (Call.Init d key nonce size header) =
+    let l = step e (Call.Init d key nonce size header) in
     record { state = l .engine; line = line l; buffer = l .buffer }
-finalStep e (Call.header input) =
-    let l = step e (Call.header input) in record { state = l .engine; line = line l; buffer = l .buffer }
-finalStep e (Call.message input out) =
+finalStep e (Call.Aad input) =
+    let l = step e (Call.Aad input) in record { state = l .engine; line = line l; buffer = l .buffer }
+finalStep e (Call.Data input out) =
     record {
       state = e;
       line = record { outcome = no (10 ∷ []); steps = stepsNow e; readable = false };
       buffer = out;
     }
-finalStep e (Call.end out) =
-    let l = step e (Call.end out) in record { state = l .engine; line = line l; buffer = l .buffer }
-finalStep e Call.reset = let l = step e Call.reset in record { state = l .engine; line = line l; buffer = l .buffer }
-finalStep e Call.tag = let l = step e Call.tag in record { state = l .engine; line = line l; buffer = l .buffer }
-finalStep e (Call.update n) =
-    let l = step e (Call.update n) in record { state = l .engine; line = line l; buffer = l .buffer }
-finalStep e (Call.output n) =
-    let l = step e (Call.output n) in record { state = l .engine; line = line l; buffer = l .buffer }
+finalStep e (Call.Final out) =
+    let l = step e (Call.Final out) in record { state = l .engine; line = line l; buffer = l .buffer }
+finalStep e Call.Reset = let l = step e Call.Reset in record { state = l .engine; line = line l; buffer = l .buffer }
+finalStep e Call.Mac = let l = step e Call.Mac in record { state = l .engine; line = line l; buffer = l .buffer }
+finalStep e (Call.Update n) =
+    let l = step e (Call.Update n) in record { state = l .engine; line = line l; buffer = l .buffer }
+finalStep e (Call.Output n) =
+    let l = step e (Call.Output n) in record { state = l .engine; line = line l; buffer = l .buffer }
 
 abbrev pub finalizing : Machine
 finalizing = record { State = SparkleEngine; new = newEngine; step = finalStep }

@@ -10,15 +10,15 @@ use Rattle.tc_sparkle_aead.specs.Sheet.{Line}
 
 -- A sealing start of variant 1 with key and nonce of zeros and no header.
 abbrev pub start : Call
-start = Call.start Encrypt (replicate 16 0) (replicate 16 0) 16 []
+start = Call.Init Encrypt (replicate 16 0) (replicate 16 0) 16 []
 
 abbrev pub worked : List Call
 worked =
     start
-    ∷ (Call.header (replicate 20 0)
-    ∷ (Call.message (replicate 33 0) (replicate 32 0)
-    ∷ (Call.header (replicate 1 0)
-    ∷ (Call.end (replicate 16 0) ∷ (Call.end (replicate 17 0) ∷ (Call.message [] [] ∷ (start ∷ [])))))))
+    ∷ (Call.Aad (replicate 20 0)
+    ∷ (Call.Data (replicate 33 0) (replicate 32 0)
+    ∷ (Call.Aad (replicate 1 0)
+    ∷ (Call.Final (replicate 16 0) ∷ (Call.Final (replicate 17 0) ∷ (Call.Data [] [] ∷ (start ∷ [])))))))
 
 -- A line of the sheet.
 abbrev pub row : Outcome → ℕ → Bool → Line

@@ -5,14 +5,14 @@ ghost use mathlib.Core.Path.{_≡_};
 ghost use Rattle.tc_aead_cipher.specs.Variant.{paramsOf};
 ghost use Rattle.tc_sparkle_aead.specs.Engine.{updateOutputLen, outputLen};
 ghost use Rattle.tc_sparkle_aead.specs.Calls.{init, processAadBytes, processBytes, processBytesOut, doFinal, doFinalOut, reset, macOf, stepsNow};
-use tc_sparkle_aead::aead_cipher;
 use tc_aead_cipher::aead_error::AeadResult;
 use tc_aead_cipher::aead_init_error::AeadInitResult;
+use tc_aead_cipher::phase::Direction;
+use tc_aead_cipher::variant::SparkleVariant;
+use tc_sparkle_aead::aead_cipher;
 use tc_sparkle_aead::engine;
 use tc_sparkle_aead::engine::Mac;
 use tc_sparkle_aead::engine::SparkleEngine;
-use tc_aead_cipher::phase::Direction;
-use tc_aead_cipher::variant::SparkleVariant;
 
 // Ends the old message and starts a new one.
 pub fn init(

@@ -4,9 +4,9 @@ ghost use mathlib.Core.Path.{_≡_};
 ghost use Rattle.tc_sparkle_aead.specs.Calls.{init};
 use super::aead_cipher;
 use tc_aead_cipher::aead_init_error::AeadInitResult;
+use tc_aead_cipher::phase::Direction;
 use tc_sparkle_aead::engine::SparkleEngine;
 use tc_sparkle_aead::engine::Started;
-use tc_aead_cipher::phase::Direction;
 
 pub struct AeadParamsRef<'a> {
     key: &'a [u8],

@@ -58,37 +58,37 @@ thirdRun h runs = take (h .third) (drop (h .first + h .second) runs)
 -- The call of a head and its runs; kinds 1 to 9.
 unfoldable pub callOf : Head → List ℕ → Call
 callOf h runs =
-    cond (eqb (h .kind) 1) (Call.start Encrypt (firstRun h runs) (secondRun h runs) (h .number) (thirdRun h runs))
-    (cond (eqb (h .kind) 2) (Call.start Decrypt (firstRun h runs) (secondRun h runs) (h .number) (thirdRun h runs))
-    (cond (eqb (h .kind) 3) (Call.header (firstRun h runs))
-    (cond (eqb (h .kind) 4) (Call.message (firstRun h runs) (thirdRun h runs))
-    (cond (eqb (h .kind) 5) (Call.end (thirdRun h runs))
-    (cond (eqb (h .kind) 6) Call.reset
-    (cond (eqb (h .kind) 7) Call.tag (cond (eqb (h .kind) 8) (Call.update (h .number)) (Call.output (h .number)))))))))
+    cond (eqb (h .kind) 1) (Call.Init Encrypt (firstRun h runs) (secondRun h runs) (h .number) (thirdRun h runs))
+    (cond (eqb (h .kind) 2) (Call.Init Decrypt (firstRun h runs) (secondRun h runs) (h .number) (thirdRun h runs))
+    (cond (eqb (h .kind) 3) (Call.Aad (firstRun h runs))
+    (cond (eqb (h .kind) 4) (Call.Data (firstRun h runs) (thirdRun h runs))
+    (cond (eqb (h .kind) 5) (Call.Final (thirdRun h runs))
+    (cond (eqb (h .kind) 6) Call.Reset
+    (cond (eqb (h .kind) 7) Call.Mac (cond (eqb (h .kind) 8) (Call.Update (h .number)) (Call.Output (h .number)))))))))
 
 -- ---- An answer
 
 -- The bytes behind the head of an answer: the output after the call; for the tag, the array that holds it.
 unfoldable pub shown : SparkleEngine → Call → List ℕ
-shown e (Call.start d key nonce size header) = []
-shown e (Call.header input) = []
-shown e (Call.message input out) = step e (Call.message input out) .buffer
-shown e (Call.end out) = step e (Call.end out) .buffer
-shown e Call.reset = []
-shown e Call.tag = macOf e .bytes
-shown e (Call.update n) = []
-shown e (Call.output n) = []
+shown e (Call.Init d key nonce size header) = []
+shown e (Call.Aad input) = []
+shown e (Call.Data input out) = step e (Call.Data input out) .buffer
+shown e (Call.Final out) = step e (Call.Final out) .buffer
+shown e Call.Reset = []
+shown e Call.Mac = macOf e .bytes
+shown e (Call.Update n) = []
+shown e (Call.Output n) = []
 
 -- How many they are: the output's; the tag's array has 32. Of a call, and by its head.
 unfoldable pub shownCount : Call → ℕ
-shownCount (Call.start d key nonce size header) = 0
-shownCount (Call.header input) = 0
-shownCount (Call.message input out) = length out
-shownCount (Call.end out) = length out
-shownCount Call.reset = 0
-shownCount Call.tag = 32
-shownCount (Call.update n) = 0
-shownCount (Call.output n) = 0
+shownCount (Call.Init d key nonce size header) = 0
+shownCount (Call.Aad input) = 0
+shownCount (Call.Data input out) = length out
+shownCount (Call.Final out) = length out
+shownCount Call.Reset = 0
+shownCount Call.Mac = 32
+shownCount (Call.Update n) = 0
+shownCount (Call.Output n) = 0
 
 unfoldable pub shownLength : Head → ℕ
 shownLength h =

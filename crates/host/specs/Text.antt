@@ -74,14 +74,14 @@ titleText v = text "(sheet (variant " ++ decimal (number v) ++ text "))\n"
 
 -- A sheet's name of a call.
 abbrev pub nameOf : Call → CallName
-nameOf (Call.start d key nonce size header) = Init
-nameOf (Call.header input) = Aad
-nameOf (Call.message input out) = Data
-nameOf (Call.end out) = Final
-nameOf Call.reset = Reset
-nameOf Call.tag = Mac
-nameOf (Call.update n) = Update
-nameOf (Call.output n) = Output
+nameOf (Call.Init d key nonce size header) = Init
+nameOf (Call.Aad input) = Aad
+nameOf (Call.Data input out) = Data
+nameOf (Call.Final out) = Final
+nameOf Call.Reset = Reset
+nameOf Call.Mac = Mac
+nameOf (Call.Update n) = Update
+nameOf (Call.Output n) = Output
 
 abbrev pub linesText : List Call → List Line → List ℕ
 linesText [] ls = []

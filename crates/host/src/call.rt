@@ -15,10 +15,10 @@ ghost use Rattle.host.specs.CallList.{headOf, readOf, firstRun, secondRu
 use super::bytes;
 use super::reply;
 use super::reply::Reply;
+use tc_aead_cipher::phase::Direction;
 use tc_sparkle_aead::aead_cipher;
 use tc_sparkle_aead::engine;
 use tc_sparkle_aead::engine::SparkleEngine;
-use tc_aead_cipher::phase::Direction;
 
 // The head of a call: its kind, its number, and the lengths of its three runs of bytes.
 pub struct Head {
@@ -126,8 +126,8 @@ fn put_head(out: &mut [u8], r: Reply, e: SparkleEngine, n: usize)
 
 fn init(e: SparkleEngine, d: Direction, h: Head, runs: &[u8], out: &mut [u8]) -> SparkleEngine
     requires { ⌜ (h .first + h .second + h .third ≤ length (now runs)) × (34 ≤ length (now out)) ⌝ }
-    ensures { λ r. ⌜ r ≡ step e (Call.start d (firstRun h (now (runs .entry))) (secondRun h (now (runs .entry))) (h .number) (thirdRun h (now (runs .entry)))) .engine ⌝ }
-    ensures { λ _. ⌜ now (out .exit) ≡ answerOf e (Call.start d (firstRun h (now (runs .entry))) (secondRun h (now (runs .entry))) (h .number) (thirdRun h (now (runs .entry)))) ++ drop 34 (now (out .entry)) ⌝ }
+    ensures { λ r. ⌜ r ≡ step e (Call.Init d (firstRun h (now (runs .entry))) (secondRun h (now (runs .entry))) (h .number) (thirdRun h (now (runs .entry)))) .engine ⌝ }
+    ensures { λ _. ⌜ now (out .exit) ≡ answerOf e (Call.Init d (firstRun h (now (runs .entry))) (secondRun h (now (runs .entry))) (h .number) (thirdRun h (now (runs .entry)))) ++ drop 34 (now (out .entry)) ⌝ }
 {
     let a = h.first;
     let b = a + h.second;
@@ -141,8 +141,8 @@ fn init(e: SparkleEngine, d: Direction, h: Head, runs: &[u8], out: &mut [u8]) ->
 
 fn process_aad_bytes(e: SparkleEngine, h: Head, runs: &[u8], out: &mut [u8]) -> SparkleEngine
     requires { ⌜ (h .first ≤ length (now runs)) × (34 ≤ length (now out)) ⌝ }
-    ensures { λ r. ⌜ r ≡ step e (Call.header (firstRun h (now (runs .entry)))) .engine ⌝ }
-    ensures { λ _. ⌜ now (out .exit) ≡ answerOf e (Call.header (firstRun h (now (runs .entry)))) ++ drop 34 (now (out .entry)) ⌝ }
+    ensures { λ r. ⌜ r ≡ step e (Call.Aad (firstRun h (now (runs .entry)))) .engine ⌝ }
+    ensures { λ _. ⌜ now (out .exit) ≡ answerOf e (Call.Aad (firstRun h (now (runs .entry)))) ++ drop 34 (now (out .entry)) ⌝ }
 {
     let a = h.first;
     let d = aead_cipher::process_aad_bytes(e, &runs[0..a]);
@@ -154,8 +154,8 @@ fn process_aad_bytes(e: SparkleEngine, h: Head, runs: &[u8], out: &mut [u8]) -> 
 
 fn process_bytes(e: SparkleEngine, h: Head, runs: &[u8], out: &mut [u8]) -> SparkleEngine
     requires { ⌜ (h .first + h .second + h .third ≤ length (now runs)) × (34 + h .third ≤ length (now out)) ⌝ }
-    ensures { λ r. ⌜ r ≡ step e (Call.message (firstRun h (now (runs .entry))) (thirdRun h (now (runs .entry)))) .engine ⌝ }
-    ensures { λ _. ⌜ now (out .exit) ≡ answerOf e (Call.message (firstRun h (now (runs .entry))) (thirdRun h (now (runs .entry)))) ++ drop (34 + h .third) (now (out .entry)) ⌝ }
+    ensures { λ r. ⌜ r ≡ step e (Call.Data (firstRun h (now (runs .entry))) (thirdRun h (now (runs .entry)))) .engine ⌝ }
+    ensures { λ _. ⌜ now (out .exit) ≡ answerOf e (Call.Data (firstRun h (now (runs .entry))) (thirdRun h (now (runs .entry)))) ++ drop (34 + h .third) (now (out .entry)) ⌝ }
 {
     let a = h.first;
     let b = a + h.second;
@@ -171,8 +171,8 @@ fn process_bytes(e: SparkleEngine, h: Head, runs: &[u8], out: &mut [u8]) -> Spar
 
 fn do_final(e: SparkleEngine, h: Head, runs: &[u8], out: &mut [u8]) -> SparkleEngine
     requires { ⌜ (h .first + h .second + h .third ≤ length (now runs)) × (34 + h .third ≤ length (now out)) ⌝ }
-    ensures { λ r. ⌜ r ≡ step e (Call.end (thirdRun h (now (runs .entry)))) .engine ⌝ }
-    ensures { λ _. ⌜ now (out .exit) ≡ answerOf e (Call.end (thirdRun h (now (runs .entry)))) ++ drop (34 + h .third) (now (out .entry)) ⌝ }
+    ensures { λ r. ⌜ r ≡ step e (Call.Final (thirdRun h (now (runs .entry)))) .engine ⌝ }
+    ensures { λ _. ⌜ now (out .exit) ≡ answerOf e (Call.Final (thirdRun h (now (runs .entry)))) ++ drop (34 + h .third) (now (out .entry)) ⌝ }
 {
     let b = h.first + h.second;
     let c = b + h.third;
@@ -187,8 +187,8 @@ fn do_final(e: SparkleEngine, h: Head, runs: &[u8], out: &mut [u8]) -> SparkleEn
 
 fn reset(e: SparkleEngine, out: &mut [u8]) -> SparkleEngine
     requires { ⌜ 34 ≤ length (now out) ⌝ }
-    ensures { λ r. ⌜ r ≡ step e Call.reset .engine ⌝ }
-    ensures { λ _. ⌜ now (out .exit) ≡ answerOf e Call.reset ++ drop 34 (now (out .entry)) ⌝ }
+    ensures { λ r. ⌜ r ≡ step e Call.Reset .engine ⌝ }
+    ensures { λ _. ⌜ now (out .exit) ≡ answerOf e Call.Reset ++ drop 34 (now (out .entry)) ⌝ }
 {
     let next = aead_cipher::reset(e);
     put_head(out, count(0), next, 0);
@@ -213,8 +213,8 @@ fn put_tag(out: &mut [u8], tag: [u8; 32])
 
 fn mac(e: SparkleEngine, out: &mut [u8]) -> SparkleEngine
     requires { ⌜ 66 ≤ length (now out) ⌝ }
-    ensures { λ r. ⌜ r ≡ step e Call.tag .engine ⌝ }
-    ensures { λ _. ⌜ now (out .exit) ≡ answerOf e Call.tag ++ drop 66 (now (out .entry)) ⌝ }
+    ensures { λ r. ⌜ r ≡ step e Call.Mac .engine ⌝ }
+    ensures { λ _. ⌜ now (out .exit) ≡ answerOf e Call.Mac ++ drop 66 (now (out .entry)) ⌝ }
 {
     let m = aead_cipher::mac(e);
     let tag = m.bytes;
@@ -225,8 +225,8 @@ fn mac(e: SparkleEngine, out: &mut [u8]) -> SparkleEngine
 
 fn update_output_len(e: SparkleEngine, n: usize, out: &mut [u8]) -> SparkleEngine
     requires { ⌜ 34 ≤ length (now out) ⌝ }
-    ensures { λ r. ⌜ r ≡ step e (Call.update n) .engine ⌝ }
-    ensures { λ _. ⌜ now (out .exit) ≡ answerOf e (Call.update n) ++ drop 34 (now (out .entry)) ⌝ }
+    ensures { λ r. ⌜ r ≡ step e (Call.Update n) .engine ⌝ }
+    ensures { λ _. ⌜ now (out .exit) ≡ answerOf e (Call.Update n) ++ drop 34 (now (out .entry)) ⌝ }
 {
     put_head(
         out,
@@ -239,8 +239,8 @@ fn update_output_len(e: SparkleEngine, n: usize, out: &mut [u8]) -> SparkleEngin
 
 fn output_len(e: SparkleEngine, n: usize, out: &mut [u8]) -> SparkleEngine
     requires { ⌜ 34 ≤ length (now out) ⌝ }
-    ensures { λ r. ⌜ r ≡ step e (Call.output n) .engine ⌝ }
-    ensures { λ _. ⌜ now (out .exit) ≡ answerOf e (Call.output n) ++ drop 34 (now (out .entry)) ⌝ }
+    ensures { λ r. ⌜ r ≡ step e (Call.Output n) .engine ⌝ }
+    ensures { λ _. ⌜ now (out .exit) ≡ answerOf e (Call.Output n) ++ drop 34 (now (out .entry)) ⌝ }
 {
     put_head(out, reply::reply_of(aead_cipher::output_len(e, n)), e, 0);
     e

@@ -24,8 +24,8 @@ use Rattle.tc_sparkle_aead.specs.declared.engine.Started.{Started}
 use Rattle.tc_sparkle_aead.specs.Engine.{newEngine}
 use Rattle.tc_aead_cipher.specs.Variant.{paramsOf}
 use Rattle.tc_aead_cipher.specs.Checks.{opening, then, room, whole, phaseCheck, updateLen, totalLen, dataCheck, endCheck}
-use Rattle.tc_aead_cipher.specs.Checks.{heldIn}
-use Rattle.tc_sparkle_aead.specs.Calls.{beginData, receivedTag, openTag, sealEnd, openEndBy, openEnd, dataBy, dataAnswer, finalBy, finalAnswer, init, processBytes, processBytesOut, doFinal, doFinalOut}
+use Rattle.tc_aead_cipher.specs.Checks.{heldData}
+use Rattle.tc_sparkle_aead.specs.Calls.{beginData, receivedTag, openTag, sealFinal, openFinalBy, openFinal, dataBy, dataAnswer, finalBy, finalAnswer, init, processBytes, processBytesOut, doFinal, doFinalOut}
 use Rattle.tc_aead_cipher.specs.Outcome.{Outcome, outcome, startOutcome}
 use Rattle.tc_sparkle_aead.specs.Sheet.{step}
 use Rattle.host.specs.Variant.{variantOf, isVariant}
@@ -73,9 +73,9 @@ room-below a m n e = by (ltb a m) refl e
         let r = ltb-false a m t in omega (arith, s, r)
 
 whole-keeps : (p : Params) (phase : Phase) (held m n : ℕ) → whole p phase held m ≡ Ok n → m ≡ n
-whole-keeps p phase held m n e = by (opening phase) (ltb (heldIn p phase held) (p .key)) e
+whole-keeps p phase held m n e = by (opening phase) (ltb (heldData p phase held) (p .key)) e
   where
-    by : (b t : Bool) → cond b (cond t (Err (CiphertextTooShort (p .key) (heldIn p phase held))) (Ok m)) (Ok m) ≡ Ok n → m ≡ n
+    by : (b t : Bool) → cond b (cond t (Err (CiphertextTooShort (p .key) (heldData p phase held))) (Ok m)) (Ok m) ≡ Ok n → m ≡ n
     by true true q = absurd (not-ok q)
     by true false q = ok-count q
     by false t q = ok-count q
@@ -104,14 +104,14 @@ data-count e input out n q =
     by (Ok m) = refl
     by (Err x) = refl
 
-ended-count : (b t : Bool) (e : SparkleEngine) (m n : ℕ) → cond b (openEndBy t e m) (sealEnd e m) .answer ≡ Ok n → m ≡ n
-unfolding sealEnd
+ended-count : (b t : Bool) (e : SparkleEngine) (m n : ℕ) → cond b (openFinalBy t e m) (sealFinal e m) .answer ≡ Ok n → m ≡ n
+unfolding sealFinal
 ended-count true true e m n q = ok-count q
 ended-count true false e m n q = absurd (not-ok q)
 ended-count false t e m n q = ok-count q
 
 pub end-count : (e : SparkleEngine) (out : List ℕ) (n : ℕ) → doFinal e out .answer ≡ Ok n → n ≤ length out
-unfolding doFinal openEnd
+unfolding doFinal openFinal
 end-count e out n q =
     end-below (paramsOf (e .variant)) (e .current .phase) (e .current .held) (length out) n (by (finalAnswer e (length out)) q)
   where

@@ -15,36 +15,36 @@ use Rattle.host.specs.Reply.{replyOf}
 use Rattle.host.specs.Variant.{variantOf, isVariant}
 
 -- The reply of the first call that is refused, or of the end; and the output.
-pub record Packed : Type 0 where
+pub record PacketResult : Type 0 where
   pub reply : Reply
   pub out : List ℕ
 
 -- The end, behind the n bytes that the data call wrote.
-abbrev pub endBy : ℕ → Outcome → List ℕ → Packed
+abbrev pub endBy : ℕ → Outcome → List ℕ → PacketResult
 endBy n (Outcome.ok m) out = record { reply = replyOf (Outcome.ok (n + m)); out = out }
 endBy n (Outcome.no v) out = record { reply = replyOf (Outcome.no v); out = out }
 
-unfoldable pub endPacket : ℕ → SparkleEngine → List ℕ → Packed
+unfoldable pub endPacket : ℕ → SparkleEngine → List ℕ → PacketResult
 endPacket n e out =
-    let l = step e (Call.end (drop n out)) in endBy n (l .outcome) (take n out ++ l .buffer)
+    let l = step e (Call.Final (drop n out)) in endBy n (l .outcome) (take n out ++ l .buffer)
 
 -- The data call and the end.
-abbrev pub dataBy : Outcome → SparkleEngine → List ℕ → Packed
+abbrev pub dataBy : Outcome → SparkleEngine → List ℕ → PacketResult
 dataBy (Outcome.ok n) e out = endPacket n e out
 dataBy (Outcome.no v) e out = record { reply = replyOf (Outcome.no v); out = out }
 
-unfoldable pub dataPacket : SparkleEngine → (input out : List ℕ) → Packed
+unfoldable pub dataPacket : SparkleEngine → (input out : List ℕ) → PacketResult
 dataPacket e input out =
-    let l = step e (Call.message input out) in dataBy (l .outcome) (l .engine) (l .buffer)
+    let l = step e (Call.Data input out) in dataBy (l .outcome) (l .engine) (l .buffer)
 
 -- The start, the data call and the end, on a new engine of the variant of a number; 23 where no variant has it.
-abbrev pub startBy : Outcome → SparkleEngine → (input out : List ℕ) → Packed
+abbrev pub startBy : Outcome → SparkleEngine → (input out : List ℕ) → PacketResult
 startBy (Outcome.ok n) e input out = dataPacket e input out
 startBy (Outcome.no v) e input out = record { reply = replyOf (Outcome.no v); out = out }
 
-unfoldable pub packetOf : ℕ → Direction → (key nonce header input out : List ℕ) → Packed
+unfoldable pub packetOf : ℕ → Direction → (key nonce header input out : List ℕ) → PacketResult
 packetOf v d key nonce header input out =
     let p = paramsOf (variantOf v) in
-    let l = step (newEngine (variantOf v)) (Call.start d key nonce (p .key) header) in
+    let l = step (newEngine (variantOf v)) (Call.Init d key nonce (p .key) header) in
     cond (isVariant v) (startBy (l .outcome) (l .engine) input out)
     (record { reply = record { number = 23; first = 0; second = 0 }; out = out })

@@ -6,12 +6,12 @@ ghost use Rattle.packet.specs.Packet.{endPacket, dataPacket, packetOf};
 use host::reply;
 use host::reply::Reply;
 use host::variant;
-use tc_sparkle_aead::aead_cipher;
 use tc_aead_cipher::aead_error::AeadResult;
 use tc_aead_cipher::aead_init_error::AeadInitResult;
+use tc_aead_cipher::phase::Direction;
+use tc_sparkle_aead::aead_cipher;
 use tc_sparkle_aead::engine;
 use tc_sparkle_aead::engine::SparkleEngine;
-use tc_aead_cipher::phase::Direction;
 
 // The end, behind the n bytes that the data call wrote.
 fn end(e: SparkleEngine, n: usize, out: &mut [u8]) -> Reply

@@ -3,11 +3,11 @@ use super::record;
 use super::record::Head;
 use host::reply;
 use host::reply::Reply;
+use tc_aead_cipher::phase::Direction;
 use tc_sparkle_aead::aead_cipher;
 use tc_sparkle_aead::engine;
 use tc_sparkle_aead::engine::Done;
 use tc_sparkle_aead::engine::SparkleEngine;
-use tc_aead_cipher::phase::Direction;
 
 // What a call answered, whether the whole output is as expected, and the engine afterwards.
 pub struct Played {

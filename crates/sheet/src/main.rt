@@ -3,18 +3,18 @@
 // AeadParamsRef. The file stdout holds the printed block.
 mod lent;
 
+use entry_calls::aead_params_ref;
 use host::reply;
 use host::reply::Reply;
 use host::text;
 use host::text::CallName;
 use host::text::Text;
 use libc::STDOUT_FILENO;
-use entry_calls::aead_params_ref;
+use tc_aead_cipher::phase::Direction;
+use tc_aead_cipher::variant::SparkleVariant;
 use tc_sparkle_aead::engine;
 use tc_sparkle_aead::engine::Done;
 use tc_sparkle_aead::engine::SparkleEngine;
-use tc_aead_cipher::phase::Direction;
-use tc_aead_cipher::variant::SparkleVariant;
 
 // The first n bytes, or all where there are fewer.
 fn first(s: &[u8], n: usize) -> &[u8] {

@@ -7,7 +7,7 @@ use lib.Dec.{eqb}
 use borrow.Author.Tests.{lt-ltb, le-ltb, eq-eqb, ne-eqb, eqb-true, eqb-false}
 use Rattle.schwaemm.specs.Blocks.{ready}
 use Rattle.schwaemm.specs.Schwaemm.{Params}
-use Rattle.tc_aead_cipher.specs.Checks.{opens, opening, heldIn, keep, then, within64, updateLen, totalLen, phaseCheck, room, whole, dataCheck, endCheck, startCheck}
+use Rattle.tc_aead_cipher.specs.Checks.{opens, opening, heldData, keep, then, within64, updateLen, totalLen, phaseCheck, room, whole, dataCheck, endCheck, startCheck}
 use Rattle.tc_aead_cipher.specs.declared.phase.Direction.{Direction}
 use Rattle.tc_aead_cipher.specs.declared.phase.Phase.{Phase}
 use Rattle.tc_aead_cipher.specs.declared.aead_error.AeadError.{AeadError}
@@ -31,33 +31,33 @@ module _ (sum n : ℕ) where
 
 module _ (p : Params) (phase : Phase) (held n : ℕ) where
   -- update_output_len: 7, or the bytes of the blocks that are ready.
-  pub updateLen-over : 2 ^ 64 ≤ heldIn p phase held + n → updateLen p phase held n ≡ Err InputTooLong
+  pub updateLen-over : 2 ^ 64 ≤ heldData p phase held + n → updateLen p phase held n ≡ Err InputTooLong
   unfolding updateLen
-  updateLen-over over = within64-over (heldIn p phase held + n) _ over
+  updateLen-over over = within64-over (heldData p phase held + n) _ over
 
-  pub updateLen-fits : heldIn p phase held + n < 2 ^ 64
-      → updateLen p phase held n ≡ Ok (ready (p .rate) (keep p phase) (heldIn p phase held + n) * p .rate)
+  pub updateLen-fits : heldData p phase held + n < 2 ^ 64
+      → updateLen p phase held n ≡ Ok (ready (p .rate) (keep p phase) (heldData p phase held + n) * p .rate)
   unfolding updateLen
-  updateLen-fits fits = within64-fits (heldIn p phase held + n) _ fits
+  updateLen-fits fits = within64-fits (heldData p phase held + n) _ fits
 
   -- output_len: 7, or the sum, less the tag on an opening and with the tag otherwise.
-  pub totalLen-over : 2 ^ 64 ≤ heldIn p phase held + n → totalLen p phase held n ≡ Err InputTooLong
+  pub totalLen-over : 2 ^ 64 ≤ heldData p phase held + n → totalLen p phase held n ≡ Err InputTooLong
   unfolding totalLen
   totalLen-over over =
-      rw (le-ltb _ _ over, le-ltb (heldIn p phase held + n + p .key) (2 ^ 64) (omega arith)) (cond-same (opening phase))
+      rw (le-ltb _ _ over, le-ltb (heldData p phase held + n + p .key) (2 ^ 64) (omega arith)) (cond-same (opening phase))
 
-  pub totalLen-opening : opening phase ≡ true → heldIn p phase held + n < 2 ^ 64
-      → totalLen p phase held n ≡ Ok (heldIn p phase held + n - p .key)
+  pub totalLen-opening : opening phase ≡ true → heldData p phase held + n < 2 ^ 64
+      → totalLen p phase held n ≡ Ok (heldData p phase held + n - p .key)
   unfolding totalLen
   totalLen-opening is-opening fits = rw (is-opening, lt-ltb _ _ fits) refl
 
-  pub totalLen-sealing-over : opening phase ≡ false → 2 ^ 64 ≤ heldIn p phase held + n + p .key
+  pub totalLen-sealing-over : opening phase ≡ false → 2 ^ 64 ≤ heldData p phase held + n + p .key
       → totalLen p phase held n ≡ Err InputTooLong
   unfolding totalLen
   totalLen-sealing-over is-sealing over = rw (is-sealing, le-ltb _ _ over) refl
 
-  pub totalLen-sealing : opening phase ≡ false → heldIn p phase held + n + p .key < 2 ^ 64
-      → totalLen p phase held n ≡ Ok (heldIn p phase held + n + p .key)
+  pub totalLen-sealing : opening phase ≡ false → heldData p phase held + n + p .key < 2 ^ 64
+      → totalLen p phase held n ≡ Ok (heldData p phase held + n + p .key)
   unfolding totalLen
   totalLen-sealing is-sealing fits = rw (is-sealing, lt-ltb _ _ fits) refl
 
@@ -113,7 +113,7 @@ module _ (p : Params) (phase : Phase) (held available : ℕ) (first : AeadResult
       pub endCheck-sealing : opening phase ≡ false → sized ≡ endCheck p phase held available
       endCheck-sealing seals = told ∙ rw (← by-size (Ok n) told, seals) refl
 
-      module _ (opens : opening phase ≡ true) (minimum actual : ℕ) (em : minimum ≡ p .key) (ea : actual ≡ heldIn p phase held) where
+      module _ (opens : opening phase ≡ true) (minimum actual : ℕ) (em : minimum ≡ p .key) (ea : actual ≡ heldData p phase held) where
         pub endCheck-short : actual < minimum → Err (CiphertextTooShort minimum actual) ≡ endCheck p phase held available
         endCheck-short short = rw (← by-size (Ok n) told, ← ea, ← em, opens, lt-ltb _ _ short) refl
 

@@ -5,11 +5,11 @@ use Rattle.tc_aead_cipher.specs.declared.phase.Direction.{Direction}
 
 -- A call with its arguments; an output buffer with its contents before the call.
 pub data Call : Type 0 where
-  start : Direction → (key nonce : List ℕ) → (size : ℕ) → (header : List ℕ) → Call
-  header : (input : List ℕ) → Call
-  message : (input out : List ℕ) → Call
-  end : (out : List ℕ) → Call
-  reset : Call
-  tag : Call
-  update : (n : ℕ) → Call
-  output : (n : ℕ) → Call
+  Init : Direction → (key nonce : List ℕ) → (size : ℕ) → (header : List ℕ) → Call
+  Aad : (input : List ℕ) → Call
+  Data : (input out : List ℕ) → Call
+  Final : (out : List ℕ) → Call
+  Reset : Call
+  Mac : Call
+  Update : (n : ℕ) → Call
+  Output : (n : ℕ) → Call

@@ -41,12 +41,12 @@ keep p phase = cond (opening phase) (p .key) 0
 
 -- The held bytes h: 0 outside Data. At most a block is held, on an opening a block and a tag; a larger count, which no
 -- calls lead to, counts as that.
-abbrev pub heldIn : Params → Phase → ℕ → ℕ
-heldIn p Uninitialized held = 0
-heldIn p (Init d) held = 0
-heldIn p (Aad d) held = 0
-heldIn p (Data d) held = min held (keep p (Data d) + p .rate)
-heldIn p (Final d) held = 0
+abbrev pub heldData : Params → Phase → ℕ → ℕ
+heldData p Uninitialized held = 0
+heldData p (Init d) held = 0
+heldData p (Aad d) held = 0
+heldData p (Data d) held = min held (keep p (Data d) + p .rate)
+heldData p (Final d) held = 0
 
 -- The first answer, where it is a refusal, else what the second makes of its count.
 abbrev pub then : AeadResult → (ℕ → AeadResult) → AeadResult
@@ -60,13 +60,13 @@ within64 sum n = cond (ltb sum (2 ^ 64)) (Ok n) (Err InputTooLong)
 -- update_output_len(n): h + n - 1, or for opening h + n - tag - 1, never under 0, rounded down to a multiple of the rate.
 unfoldable pub updateLen : Params → Phase → ℕ → ℕ → AeadResult
 updateLen p phase held n =
-    within64 (heldIn p phase held + n) (ready (p .rate) (keep p phase) (heldIn p phase held + n) * p .rate)
+    within64 (heldData p phase held + n) (ready (p .rate) (keep p phase) (heldData p phase held + n) * p .rate)
 
 -- output_len(n): h + n + tag, or for opening h + n - tag, never under 0.
 unfoldable pub totalLen : Params → Phase → ℕ → ℕ → AeadResult
 totalLen p phase held n =
-    cond (opening phase) (within64 (heldIn p phase held + n) (heldIn p phase held + n - p .key))
-    (within64 (heldIn p phase held + n + p .key) (heldIn p phase held + n + p .key))
+    cond (opening phase) (within64 (heldData p phase held + n) (heldData p phase held + n - p .key))
+    (within64 (heldData p phase held + n + p .key) (heldData p phase held + n + p .key))
 
 -- A data call and an end: 10 in Final, 8 in Uninitialized.
 abbrev pub phaseCheck : Phase → AeadResult
@@ -100,7 +100,7 @@ dataCheck p phase held n available = then (phaseCheck phase) (λ _. then (update
 abbrev pub whole : Params → Phase → ℕ → ℕ → AeadResult
 whole p phase held n =
     cond (opening phase)
-    (cond (ltb (heldIn p phase held) (p .key)) (Err (CiphertextTooShort (p .key) (heldIn p phase held))) (Ok n)) (Ok n)
+    (cond (ltb (heldData p phase held) (p .key)) (Err (CiphertextTooShort (p .key) (heldData p phase held))) (Ok n)) (Ok n)
 
 -- An end into an output of `available`: phase, then 4, then 5. Its count is what is written, unless the tag differs.
 unfoldable pub endCheck : Params → Phase → ℕ → ℕ → AeadResult

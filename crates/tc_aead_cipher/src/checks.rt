@@ -2,7 +2,7 @@
 // 01's tables ("At the entry: phase and call"). Sums are compared by subtraction.
 ghost use mathlib.Core.Path.{_≡_};
 ghost use Rattle.tc_aead_cipher.specs.Variant.{paramsOf};
-ghost use Rattle.tc_aead_cipher.specs.Checks.{opens, directionOf, opening, heldIn, keep, then, updateLen, totalLen, phaseCheck, room, headerCheck, dataCheck, endCheck, startCheck};
+ghost use Rattle.tc_aead_cipher.specs.Checks.{opens, directionOf, opening, heldData, keep, then, updateLen, totalLen, phaseCheck, room, headerCheck, dataCheck, endCheck, startCheck};
 ghost use Rattle.schwaemm.specs.Blocks.{ready};
 ghost use Prim.Native.Nat.{_-_, min};
 use super::aead_error::AeadError;
@@ -54,21 +54,21 @@ pub fn keep(variant: SparkleVariant, phase: Phase) -> usize
 }
 
 // The lesser of two numbers.
-pub fn least(a: usize, b: usize) -> usize
+pub fn min(a: usize, b: usize) -> usize
     ensures { λ r. ⌜ r ≡ min a b ⌝ }
 {
     if a < b { a } else { b }
 }
 
 // The held bytes h of document 01: 0 outside Data.
-pub fn held_in(variant: SparkleVariant, phase: Phase, held: usize) -> usize
-    ensures { λ r. ⌜ r ≡ heldIn (paramsOf variant) phase held ⌝ }
+pub fn held_data(variant: SparkleVariant, phase: Phase, held: usize) -> usize
+    ensures { λ r. ⌜ r ≡ heldData (paramsOf variant) phase held ⌝ }
 {
     match phase {
         Phase::Uninitialized => 0,
         Phase::Init(_) => 0,
         Phase::Aad(_) => 0,
-        Phase::Data(_) => least(held, keep(variant, phase) + variant.nonce_bytes()),
+        Phase::Data(_) => min(held, keep(variant, phase) + variant.nonce_bytes()),
         Phase::Final(_) => 0,
     }
 }
@@ -91,7 +91,7 @@ pub fn block_count(variant: SparkleVariant, keep: usize, n: usize) -> usize
 pub fn update_len(variant: SparkleVariant, phase: Phase, held: usize, n: usize) -> AeadResult
     ensures { λ r. ⌜ r ≡ updateLen (paramsOf variant) phase held n ⌝ }
 {
-    let h = held_in(variant, phase, held);
+    let h = held_data(variant, phase, held);
     if usize::MAX - h < n {
         return AeadResult::Err(AeadError::InputTooLong);
     }
@@ -104,7 +104,7 @@ pub fn update_len(variant: SparkleVariant, phase: Phase, held: usize, n: usize) 
 pub fn total_len(variant: SparkleVariant, phase: Phase, held: usize, n: usize) -> AeadResult
     ensures { λ r. ⌜ r ≡ totalLen (paramsOf variant) phase held n ⌝ }
 {
-    let h = held_in(variant, phase, held);
+    let h = held_data(variant, phase, held);
     if usize::MAX - h < n {
         return AeadResult::Err(AeadError::InputTooLong);
     }
@@ -180,12 +180,7 @@ pub fn data_check(
 
 // Whether an end into an output of `available` is taken, and what it writes. An opening must have as
 // much ciphertext as a tag.
-pub fn end_check(
-    variant: SparkleVariant,
-    phase: Phase,
-    held: usize,
-    available: usize,
-) -> AeadResult
+pub fn end_check(variant: SparkleVariant, phase: Phase, held: usize, available: usize) -> AeadResult
     ensures { λ r. ⌜ r ≡ endCheck (paramsOf variant) phase held available ⌝ }
 {
     let answer = phase_check(phase);
@@ -198,7 +193,7 @@ pub fn end_check(
     };
     if opening(phase) {
         let minimum = variant.tag_bytes();
-        let actual = held_in(variant, phase, held);
+        let actual = held_data(variant, phase, held);
         if actual < minimum {
             return AeadResult::Err(AeadError::CiphertextTooShort { minimum, actual });
         }

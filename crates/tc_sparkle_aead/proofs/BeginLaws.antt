@@ -12,58 +12,58 @@ use Rattle.schwaemm.specs.Schwaemm.{Params}
 use Rattle.tc_aead_cipher.specs.declared.phase.Direction.{Direction}
 use Rattle.tc_aead_cipher.specs.declared.phase.Phase.{Phase}
 use Rattle.tc_aead_cipher.specs.declared.phase.Phase.the-variants.{Uninitialized, Init, Aad, Data, Final}
-use Rattle.tc_sparkle_aead.specs.declared.engine.Point.{Point}
+use Rattle.tc_sparkle_aead.specs.declared.message.Point.{Point}
 use Rattle.tc_sparkle_aead.specs.declared.engine.Mac.{Mac}
 use Rattle.tc_sparkle_aead.specs.declared.engine.Steps.{Steps}
 use Rattle.tc_sparkle_aead.specs.declared.engine.SparkleEngine.{SparkleEngine}
 use Rattle.tc_aead_cipher.specs.Variant.{paramsOf}
-use Rattle.tc_aead_cipher.specs.Checks.{heldIn}
-use Rattle.tc_sparkle_aead.specs.Calls.{heldCount, addSteps, atPoint, withoutHeader, afterHeader, begun, begunSteps, beginBy, messageAt, finalPoint, ended}
+use Rattle.tc_aead_cipher.specs.Checks.{heldData}
+use Rattle.tc_sparkle_aead.specs.Calls.{bufferedCount, addSteps, atPoint, withoutHeader, afterHeader, beginPoint, beginSteps, beginBy, messageAt, finalPoint, finalEngine}
 use Rattle.tc_aead_cipher.proofs.phase.Phase.{the-type}
 
 -- ---- The point, by the phase.
 
 module _ (p : Params) (at : Point) (d : Direction) {r : Point} where
-  pub begun-init : at .phase ≡ Init d → r ≡ withoutHeader d at → r ≡ begun p (at .phase) at
-  begun-init is e = e ∙ sym (ap (λ (x : Phase). begun p x at) is)
+  pub begin-init : at .phase ≡ Init d → r ≡ withoutHeader d at → r ≡ beginPoint p (at .phase) at
+  begin-init is e = e ∙ sym (ap (λ (x : Phase). beginPoint p x at) is)
 
-  pub begun-aad : at .phase ≡ Aad d → r ≡ afterHeader p d at → r ≡ begun p (at .phase) at
-  begun-aad is e = e ∙ sym (ap (λ (x : Phase). begun p x at) is)
+  pub begin-aad : at .phase ≡ Aad d → r ≡ afterHeader p d at → r ≡ beginPoint p (at .phase) at
+  begin-aad is e = e ∙ sym (ap (λ (x : Phase). beginPoint p x at) is)
 
 -- neither Init nor Aad
-pub begun-kept : (p : Params) (phase : Phase) → OneOf (0 ∷ (3 ∷ (4 ∷ []))) (tagOf the-type phase) → (at : Point)
-    → at ≡ begun p phase at
-begun-kept p Uninitialized h at = refl
-begun-kept p (Init d) (inl h) at = absurd (omega arith)
-begun-kept p (Init d) (inr (inl h)) at = absurd (omega arith)
-begun-kept p (Init d) (inr (inr h)) at = absurd (omega arith)
-begun-kept p (Aad d) (inl h) at = absurd (omega arith)
-begun-kept p (Aad d) (inr (inl h)) at = absurd (omega arith)
-begun-kept p (Aad d) (inr (inr h)) at = absurd (omega arith)
-begun-kept p (Data d) h at = refl
-begun-kept p (Final d) h at = refl
+pub begin-kept : (p : Params) (phase : Phase) → OneOf (0 ∷ (3 ∷ (4 ∷ []))) (tagOf the-type phase) → (at : Point)
+    → at ≡ beginPoint p phase at
+begin-kept p Uninitialized h at = refl
+begin-kept p (Init d) (inl h) at = absurd (omega arith)
+begin-kept p (Init d) (inr (inl h)) at = absurd (omega arith)
+begin-kept p (Init d) (inr (inr h)) at = absurd (omega arith)
+begin-kept p (Aad d) (inl h) at = absurd (omega arith)
+begin-kept p (Aad d) (inr (inl h)) at = absurd (omega arith)
+begin-kept p (Aad d) (inr (inr h)) at = absurd (omega arith)
+begin-kept p (Data d) h at = refl
+begin-kept p (Final d) h at = refl
 
 -- not Aad
-pub begun-without-steps : (p : Params) (phase : Phase) → OneOf (0 ∷ (1 ∷ (3 ∷ (4 ∷ [])))) (tagOf the-type phase)
-    → 0 ≡ begunSteps p phase
-begun-without-steps p Uninitialized h = refl
-begun-without-steps p (Init d) h = refl
-begun-without-steps p (Aad d) (inl h) = absurd (omega arith)
-begun-without-steps p (Aad d) (inr (inl h)) = absurd (omega arith)
-begun-without-steps p (Aad d) (inr (inr (inl h))) = absurd (omega arith)
-begun-without-steps p (Aad d) (inr (inr (inr h))) = absurd (omega arith)
-begun-without-steps p (Data d) h = refl
-begun-without-steps p (Final d) h = refl
+pub begin-without-steps : (p : Params) (phase : Phase) → OneOf (0 ∷ (1 ∷ (3 ∷ (4 ∷ [])))) (tagOf the-type phase)
+    → 0 ≡ beginSteps p phase
+begin-without-steps p Uninitialized h = refl
+begin-without-steps p (Init d) h = refl
+begin-without-steps p (Aad d) (inl h) = absurd (omega arith)
+begin-without-steps p (Aad d) (inr (inl h)) = absurd (omega arith)
+begin-without-steps p (Aad d) (inr (inr (inl h))) = absurd (omega arith)
+begin-without-steps p (Aad d) (inr (inr (inr h))) = absurd (omega arith)
+begin-without-steps p (Data d) h = refl
+begin-without-steps p (Final d) h = refl
 
 -- the held bytes there
-pub begun-held : (p : Params) (phase : Phase) (at : Point) → at .phase ≡ phase
-    → heldCount p (begun p phase at .phase) (begun p phase at .held) ≡ heldIn p phase (at .held)
+pub begin-held : (p : Params) (phase : Phase) (at : Point) → at .phase ≡ phase
+    → bufferedCount p (beginPoint p phase at .phase) (beginPoint p phase at .held) ≡ heldData p phase (at .held)
 unfolding withoutHeader afterHeader
-begun-held p Uninitialized at is = rw is refl
-begun-held p (Init d) at is = omega arith
-begun-held p (Aad d) at is = omega arith
-begun-held p (Data d) at is = rw is refl
-begun-held p (Final d) at is = rw is refl
+begin-held p Uninitialized at is = rw is refl
+begin-held p (Init d) at is = omega arith
+begin-held p (Aad d) at is = omega arith
+begin-held p (Data d) at is = rw is refl
+begin-held p (Final d) at is = rw is refl
 
 -- ---- The engine.
 
@@ -89,7 +89,7 @@ module _ (e : SparkleEngine) where
 
   -- with the steps of the beginning, the engine at another point is that of the engine in which the data begins
   pub begin-at : (phase : Phase) (x at : Point) (n : ℕ)
-      → atPoint (atPoint e x (begunSteps (paramsOf (e .variant)) phase)) at n ≡ atPoint (beginBy phase e) at n
+      → atPoint (atPoint e x (beginSteps (paramsOf (e .variant)) phase)) at n ≡ atPoint (beginBy phase e) at n
   unfolding atPoint
   begin-at Uninitialized x at n = kept-at x at n
   begin-at (Init d) x at n = refl
@@ -99,8 +99,8 @@ module _ (e : SparkleEngine) where
 
   -- and the ended one
   pub begin-ended : (phase : Phase) (x : Point) (d : Direction) (mac : Mac) (n : ℕ)
-      → ended (atPoint e x (begunSteps (paramsOf (e .variant)) phase)) d mac n ≡ ended (beginBy phase e) d mac n
-  unfolding ended atPoint
+      → finalEngine (atPoint e x (beginSteps (paramsOf (e .variant)) phase)) d mac n ≡ finalEngine (beginBy phase e) d mac n
+  unfolding finalEngine atPoint
   begin-ended phase x d mac n =
       ap (λ (y : SparkleEngine). record {
         variant = y .variant;
@@ -112,7 +112,7 @@ module _ (e : SparkleEngine) where
       }) (begin-at phase x (finalPoint d) n)
 
   -- its point, its variant, and both with its pair
-  pub begin-current : (phase : Phase) → beginBy phase e .current ≡ begun (paramsOf (e .variant)) phase (e .current)
+  pub begin-current : (phase : Phase) → beginBy phase e .current ≡ beginPoint (paramsOf (e .variant)) phase (e .current)
   unfolding atPoint
   begin-current Uninitialized = refl
   begin-current (Init d) = refl
@@ -130,7 +130,7 @@ module _ (e : SparkleEngine) where
 
   pub begin-message : (phase : Phase)
       → messageAt (beginBy phase e .variant) (beginBy phase e .current) (beginBy phase e .pair)
-      ≡ messageAt (e .variant) (begun (paramsOf (e .variant)) phase (e .current)) (e .pair)
+      ≡ messageAt (e .variant) (beginPoint (paramsOf (e .variant)) phase (e .current)) (e .pair)
   unfolding atPoint
   begin-message Uninitialized = refl
   begin-message (Init d) = refl

@@ -10,39 +10,39 @@ use Rattle.schwaemm.specs.Schwaemm.{Params}
 use Rattle.schwaemm.proofs.Cut.{ready-bound, rest-below}
 use Rattle.tc_aead_cipher.specs.declared.phase.Phase.{Phase}
 use Rattle.tc_aead_cipher.specs.declared.phase.Phase.the-variants.{Uninitialized, Init, Aad, Data, Final}
-use Rattle.tc_sparkle_aead.specs.declared.engine.Point.{Point}
+use Rattle.tc_sparkle_aead.specs.declared.message.Point.{Point}
 use Rattle.tc_sparkle_aead.specs.Engine.{inArray}
-use Rattle.tc_sparkle_aead.specs.Calls.{stateIn, putState, heldCount, heldBytes, stream, blocks, streamed}
+use Rattle.tc_sparkle_aead.specs.Calls.{stateIn, putState, bufferedCount, buffered, stream, blockCount, streamed}
 use Rattle.tc_aead_cipher.proofs.VariantLaws.{Small, keep-bound}
 
 -- at most 64 bytes are held
-pub heldCount-bound : (p : Params) → Small p → (phase : Phase) (n : ℕ) → heldCount p phase n ≤ 64
-heldCount-bound p h Uninitialized n = omega arith
-heldCount-bound p h (Init d) n = omega arith
-heldCount-bound p h (Aad d) n = omega arith
-heldCount-bound p h (Data d) n = omega (arith, keep-bound p (Data d))
-heldCount-bound p h (Final d) n = omega arith
+pub bufferedCount-bound : (p : Params) → Small p → (phase : Phase) (n : ℕ) → bufferedCount p phase n ≤ 64
+bufferedCount-bound p h Uninitialized n = omega arith
+bufferedCount-bound p h (Init d) n = omega arith
+bufferedCount-bound p h (Aad d) n = omega arith
+bufferedCount-bound p h (Data d) n = omega (arith, keep-bound p (Data d))
+bufferedCount-bound p h (Final d) n = omega arith
 
 -- the stream from the code's own held count
-pub stream-is : (p : Params) (at : Point) (input : List ℕ) (h : ℕ) → h ≡ heldCount p (at .phase) (at .held) → take h (at .buffer) ++ input ≡ stream p at input
-unfolding stream heldBytes
+pub stream-is : (p : Params) (at : Point) (input : List ℕ) (h : ℕ) → h ≡ bufferedCount p (at .phase) (at .held) → take h (at .buffer) ++ input ≡ stream p at input
+unfolding stream buffered
 stream-is p at input h e = ap (λ (n : ℕ). take n (at .buffer) ++ input) e
 
-pub length-stream : (p : Params) (at : Point) (input : List ℕ) → Small p → length (at .buffer) ≡ 64 → length (stream p at input) ≡ heldCount p (at .phase) (at .held) + length input
-unfolding stream heldBytes
+pub length-stream : (p : Params) (at : Point) (input : List ℕ) → Small p → length (at .buffer) ≡ 64 → length (stream p at input) ≡ bufferedCount p (at .phase) (at .held) + length input
+unfolding stream buffered
 length-stream p at input small long =
-    simp (length-append, length-take) (omega (arith, heldCount-bound p small (at .phase) (at .held)))
+    simp (length-append, length-take) (omega (arith, bufferedCount-bound p small (at .phase) (at .held)))
 
 -- a point after its blocks
 module _ (p : Params) (small : Small p) (k : ℕ) (step : List ℕ → List ℕ → List ℕ) (phase : Phase) (at : Point) (input : List ℕ)
-    (long : length (at .buffer) ≡ 64) (h : ℕ) (eh : h ≡ heldCount p (at .phase) (at .held)) (count : ℕ)
+    (long : length (at .buffer) ≡ 64) (h : ℕ) (eh : h ≡ bufferedCount p (at .phase) (at .held)) (count : ℕ)
     (ec : count ≡ ready (p .rate) k (h + length input)) where
   total : h + length input ≡ length (stream p at input)
   total = ap (λ (n : ℕ). n + length input) eh ∙ sym (length-stream p at input small long)
 
-  pub blocks-is : count ≡ blocks p k at input
-  unfolding blocks
-  blocks-is = ec ∙ ap (ready (p .rate) k) total
+  pub blockCount-is : count ≡ blockCount p k at input
+  unfolding blockCount
+  blockCount-is = ec ∙ ap (ready (p .rate) k) total
 
   streamed-is : (words buffer : List ℕ) (rest : ℕ) → words ≡ putState p (at .words) (after (p .rate) step count (stateIn p (at .words)) (take h (at .buffer) ++ input)) → rest ≡ h + length input - count * p .rate → buffer ≡ inArray 64 (take rest (drop (count * p .rate) (take h (at .buffer) ++ input))) → _≡_ {A = Point} (record { phase = phase; words = words; buffer = buffer; held = rest }) (streamed p k step phase at input)
   unfolding streamed held
@@ -54,7 +54,7 @@ module _ (p : Params) (small : Small p) (k : ℕ) (step : List ℕ → List ℕ 
       let el : rest ≡ length rest-of =
       er ∙ ap₂ (λ (x y : ℕ). x - y * p .rate) total n ∙ sym (length-drop (ready (p .rate) k (length t) * p .rate) t) in
       let ew′ =
-      ew ∙ ap₂ (λ (c : ℕ) (l : List ℕ). putState p (at .words) (after (p .rate) step c (stateIn p (at .words)) l)) blocks-is s in
+      ew ∙ ap₂ (λ (c : ℕ) (l : List ℕ). putState p (at .words) (after (p .rate) step c (stateIn p (at .words)) l)) blockCount-is s in
       let eb′ =
       eb
       ∙ ap (inArray 64)

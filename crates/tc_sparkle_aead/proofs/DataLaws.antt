@@ -12,8 +12,8 @@ use Rattle.schwaemm.specs.Blocks.{ready, given}
 use Rattle.schwaemm.specs.Schwaemm.{Params, messageBlock, crypt}
 use Rattle.tc_aead_cipher.specs.Variant.{paramsOf}
 use Rattle.tc_aead_cipher.specs.declared.phase.Phase.{Phase}
-use Rattle.tc_sparkle_aead.specs.declared.engine.Point.{Point}
-use Rattle.tc_sparkle_aead.specs.declared.engine.Progress.{Progress}
+use Rattle.tc_sparkle_aead.specs.declared.message.Point.{Point}
+use Rattle.tc_sparkle_aead.specs.declared.message.Progress.{Progress}
 use Rattle.tc_aead_cipher.specs.declared.phase.Phase.the-variants.{Uninitialized, Init, Aad, Data, Final}
 use Rattle.tc_aead_cipher.specs.declared.phase.Direction.{Direction}
 use Rattle.tc_aead_cipher.specs.declared.aead_error.AeadError.{AeadError}
@@ -21,28 +21,28 @@ use Rattle.tc_aead_cipher.specs.declared.aead_error.AeadError.the-variants.{Out
 use Rattle.tc_aead_cipher.specs.declared.aead_error.AeadResult.{AeadResult}
 use Rattle.tc_aead_cipher.specs.declared.aead_error.AeadResult.the-variants.{Ok, Err}
 use Rattle.tc_sparkle_aead.specs.declared.engine.SparkleEngine.{SparkleEngine}
-use Rattle.tc_aead_cipher.specs.Checks.{keep, heldIn, then, room, updateLen, dataCheck}
-use Rattle.tc_sparkle_aead.specs.Calls.{stateIn, heldCount, blocks, plainOf, streamOut, written, atPoint, withoutHeader, afterHeader, begun, begunSteps, beginBy, beginData, dataFrom, dataIn, dataOut, dataBy, dataOutBy, dataAnswer, processBytes, processBytesOut}
+use Rattle.tc_aead_cipher.specs.Checks.{keep, heldData, then, room, updateLen, dataCheck}
+use Rattle.tc_sparkle_aead.specs.Calls.{stateIn, bufferedCount, blockCount, plainOf, streamOut, written, atPoint, withoutHeader, afterHeader, beginPoint, beginSteps, beginBy, beginData, dataFrom, dataIn, dataOut, dataBy, dataOutBy, dataAnswer, processBytes, processBytesOut}
 use Rattle.tc_sparkle_aead.proofs.Fill.{length-zeros}
 use Rattle.tc_aead_cipher.proofs.VariantLaws.{Small}
 use Rattle.tc_sparkle_aead.proofs.BeginLaws.{begin-at, begin-current, begin-variant}
 use Rattle.tc_sparkle_aead.proofs.CallLaws.{stream-is, length-stream}
 
 module _ (p : Params) (small : Small p) (k : ℕ) (at : Point) (input : List ℕ) (long : length (at .buffer) ≡ 64) (h : ℕ)
-    (eh : h ≡ heldCount p (at .phase) (at .held)) (count : ℕ) where
+    (eh : h ≡ bufferedCount p (at .phase) (at .held)) (count : ℕ) where
   -- the number of blocks from the code's own held count
-  pub count-is : count ≡ blocks p k at input → count ≡ ready (p .rate) k (h + length input)
-  unfolding blocks
+  pub count-is : count ≡ blockCount p k at input → count ≡ ready (p .rate) k (h + length input)
+  unfolding blockCount
   count-is e =
       e ∙ ap (ready (p .rate) k) (length-stream p at input small long ∙ ap (λ (n : ℕ). n + length input) (sym eh))
 
-  pub is-count : (n : ℕ) → count ≡ ready (p .rate) k n → n ≡ h + length input → count ≡ blocks p k at input
-  unfolding blocks
+  pub is-count : (n : ℕ) → count ≡ ready (p .rate) k n → n ≡ h + length input → count ≡ blockCount p k at input
+  unfolding blockCount
   is-count n e en =
       e ∙ ap (ready (p .rate) k) (en ∙ ap (λ (n : ℕ). n + length input) eh ∙ sym (length-stream p at input small long))
 
 -- what the blocks write
-pub written-at : (p : Params) (at : Point) (input out bytes : List ℕ) (h count : ℕ) → h ≡ heldCount p (at .phase) (at .held) → count ≡ blocks p (keep p (at .phase)) at input → length (given (p .rate) (messageBlock p (plainOf p (at .phase))) (crypt p) count (stateIn p (at .words)) (take h (at .buffer) ++ input)) ≡ count * p .rate → bytes ≡ given (p .rate) (messageBlock p (plainOf p (at .phase))) (crypt p) count (stateIn p (at .words)) (take h (at .buffer) ++ input) ++ drop (count * p .rate) out → bytes ≡ written (streamOut p at input) out
+pub written-at : (p : Params) (at : Point) (input out bytes : List ℕ) (h count : ℕ) → h ≡ bufferedCount p (at .phase) (at .held) → count ≡ blockCount p (keep p (at .phase)) at input → length (given (p .rate) (messageBlock p (plainOf p (at .phase))) (crypt p) count (stateIn p (at .words)) (take h (at .buffer) ++ input)) ≡ count * p .rate → bytes ≡ given (p .rate) (messageBlock p (plainOf p (at .phase))) (crypt p) count (stateIn p (at .words)) (take h (at .buffer) ++ input) ++ drop (count * p .rate) out → bytes ≡ written (streamOut p at input) out
 unfolding written streamOut
 written-at p at input out bytes h count eh ec el eb =
     let g = given (p .rate) (messageBlock p (plainOf p (at .phase))) (crypt p) count (stateIn p (at .words)) (take h (at .buffer) ++ input) in
@@ -59,37 +59,37 @@ module _ (r available n : ℕ) where
   within-room true e = roomy (ltb available r) refl e
   within-room false e = absurd (let z : _≡_ {A = ℕ} 0 1 = cc in omega arith)
 
-update-room : (p : Params) (phase : Phase) (held m available n : ℕ) → then (updateLen p phase held m) (room available) ≡ Ok n → ready (p .rate) (keep p phase) (heldIn p phase held + m) * p .rate ≤ available
+update-room : (p : Params) (phase : Phase) (held m available n : ℕ) → then (updateLen p phase held m) (room available) ≡ Ok n → ready (p .rate) (keep p phase) (heldData p phase held + m) * p .rate ≤ available
 unfolding updateLen
 update-room p phase held m available n e =
-    within-room (ready (p .rate) (keep p phase) (heldIn p phase held + m) * p .rate) available n (ltb (heldIn p phase held + m) (2 ^ 64)) e
+    within-room (ready (p .rate) (keep p phase) (heldData p phase held + m) * p .rate) available n (ltb (heldData p phase held + m) (2 ^ 64)) e
 
 -- the blocks of a point in Data, from its held count
-blocks-in : (p : Params) → Small p → (k h : ℕ) (at : Point) (input : List ℕ) → length (at .buffer) ≡ 64 → heldCount p (at .phase) (at .held) ≡ h → blocks p k at input ≡ ready (p .rate) k (h + length input)
-unfolding blocks
-blocks-in p small k h at input long e =
+blockCount-in : (p : Params) → Small p → (k h : ℕ) (at : Point) (input : List ℕ) → length (at .buffer) ≡ 64 → bufferedCount p (at .phase) (at .held) ≡ h → blockCount p k at input ≡ ready (p .rate) k (h + length input)
+unfolding blockCount
+blockCount-in p small k h at input long e =
     ap (ready (p .rate) k) (length-stream p at input small long ∙ ap (λ (n : ℕ). n + length input) e)
 
-none-held : (p : Params) (d : Direction) → heldCount p (Data d) 0 ≡ 0
+none-held : (p : Params) (d : Direction) → bufferedCount p (Data d) 0 ≡ 0
 none-held p d = omega arith
 
 -- the point where the data begins has room for its blocks
 pub data-room : (p : Params) → Small p → (phase : Phase) (at : Point) → at .phase ≡ phase → length (at .buffer) ≡ 64
     → (input : List ℕ) (available n : ℕ) → dataCheck p phase (at .held) (length input) available ≡ Ok n
-    → blocks p (keep p (begun p phase at .phase)) (begun p phase at) input * p .rate ≤ available
+    → blockCount p (keep p (beginPoint p phase at .phase)) (beginPoint p phase at) input * p .rate ≤ available
 unfolding dataCheck withoutHeader afterHeader
 data-room p f Uninitialized at q long input available n ok = absurd (let z : _≡_ {A = ℕ} 0 1 = cc in omega arith)
 data-room p f (Init d) at q long input available n ok =
-    rw (blocks-in p f (keep p (Data d)) 0 (withoutHeader d at) input (length-zeros 64) (none-held p d))
+    rw (blockCount-in p f (keep p (Data d)) 0 (withoutHeader d at) input (length-zeros 64) (none-held p d))
     (update-room p (Init d) (at .held) (length input) available n ok)
 data-room p f (Aad d) at q long input available n ok =
-    rw (blocks-in p f (keep p (Data d)) 0 (afterHeader p d at) input (length-zeros 64) (none-held p d))
+    rw (blockCount-in p f (keep p (Data d)) 0 (afterHeader p d at) input (length-zeros 64) (none-held p d))
     (update-room p (Aad d) (at .held) (length input) available n ok)
 data-room p f (Data d) at q long input available n ok =
-    let count : blocks p (keep p (at .phase)) at input ≡ ready (p .rate) (keep p (Data d)) (heldIn p (Data d) (at .held) + length input) =
-    ap (λ (k : ℕ). blocks p k at input) (ap (keep p) q)
-    ∙ blocks-in p f (keep p (Data d)) (heldIn p (Data d) (at .held)) at input long
-    (ap (λ (ph : Phase). heldCount p ph (at .held)) q) in
+    let count : blockCount p (keep p (at .phase)) at input ≡ ready (p .rate) (keep p (Data d)) (heldData p (Data d) (at .held) + length input) =
+    ap (λ (k : ℕ). blockCount p k at input) (ap (keep p) q)
+    ∙ blockCount-in p f (keep p (Data d)) (heldData p (Data d) (at .held)) at input long
+    (ap (λ (ph : Phase). bufferedCount p ph (at .held)) q) in
     rw count (update-room p (Data d) (at .held) (length input) available n ok)
 data-room p f (Final d) at q long input available n ok = absurd (let z : _≡_ {A = ℕ} 0 1 = cc in omega arith)
 
@@ -106,7 +106,7 @@ module _ (e : SparkleEngine) (input out : List ℕ) (answer : AeadResult)
   data-refused-out x told = ap (λ (k : AeadResult). dataOutBy k e input out) (sym told ∙ checked)
 
   module _ (n : ℕ) (told : answer ≡ Ok n) (at : Point)
-      (begins : at ≡ begun (paramsOf (e .variant)) (e .current .phase) (e .current)) where
+      (begins : at ≡ beginPoint (paramsOf (e .variant)) (e .current .phase) (e .current)) where
     -- the point of the engine in which the data begins, and its parameters
     point-is : at ≡ beginData e .current
     unfolding beginData
@@ -116,7 +116,7 @@ module _ (e : SparkleEngine) (input out : List ℕ) (answer : AeadResult)
     unfolding beginData
     params-are = sym (ap paramsOf (begin-variant e (e .current .phase)))
 
-    pub data-taken : (first : ℕ) → first ≡ begunSteps (paramsOf (e .variant)) (e .current .phase) → (x : Point)
+    pub data-taken : (first : ℕ) → first ≡ beginSteps (paramsOf (e .variant)) (e .current .phase) → (x : Point)
         (done : Progress) → done ≡ dataFrom (paramsOf (e .variant)) at input → (engine : SparkleEngine)
         → engine ≡ atPoint (atPoint e x first) (done .point) (done .steps)
         → record { answer = answer; engine = engine } ≡ processBytes e input out

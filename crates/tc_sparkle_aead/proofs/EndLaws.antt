@@ -12,17 +12,17 @@ use Rattle.schwaemm.specs.Bytes.{ifEmpty, same}
 use Rattle.schwaemm.specs.Schwaemm.{Params, Sizes, crypt, mixLast, tagOf}
 use Rattle.schwaemm.proofs.States.{stateLength, length-crypt, length-mixLast}
 use Rattle.schwaemm.proofs.RoundTrip.{length-tagOf}
-use Rattle.tc_sparkle_aead.specs.declared.engine.Point.{Point}
+use Rattle.tc_sparkle_aead.specs.declared.message.Point.{Point}
 use Rattle.tc_sparkle_aead.specs.declared.engine.SparkleEngine.{SparkleEngine}
-use Rattle.tc_sparkle_aead.specs.declared.engine.End.{End}
+use Rattle.tc_sparkle_aead.specs.declared.message.End.{End}
 use Rattle.tc_sparkle_aead.specs.declared.engine.Mac.{Mac}
 use Rattle.tc_aead_cipher.specs.Variant.{paramsOf}
 use Rattle.tc_sparkle_aead.specs.Engine.{zeros, inArray, noMac, currentKey}
-use Rattle.tc_sparkle_aead.specs.Calls.{stateIn, putState, heldCount, heldBytes, lastState, lastSteps, written, sealTag, sealLast, openBlock, receivedTag, openLast, openTag, readable, sealedEnd, openedEnd, openEndOutBy}
+use Rattle.tc_sparkle_aead.specs.Calls.{stateIn, putState, bufferedCount, buffered, lastState, lastSteps, written, sealTag, sealLast, openBlock, receivedTag, openLast, openTag, readable, sealEnd, openEnd, openEndOut}
 use Rattle.tc_aead_cipher.proofs.VariantLaws.{Small, sizes, small}
 use Rattle.tc_sparkle_aead.proofs.Fill.{length-zeros}
 use Rattle.tc_sparkle_aead.proofs.StateLaws.{all-inArray, state-put, put-state, length-stateIn}
-use Rattle.tc_sparkle_aead.proofs.CallLaws.{heldCount-bound}
+use Rattle.tc_sparkle_aead.proofs.CallLaws.{bufferedCount-bound}
 
 -- ---- The state after the last block.
 
@@ -110,21 +110,21 @@ module _ (p : Params) (h : Sizes p) (f : Small p) (words : List ℕ) (hw : lengt
 
 -- ---- The bytes that are held, by the code's own count.
 
-module _ (p : Params) (at : Point) (held : ℕ) (eh : held ≡ heldCount p (at .phase) (at .held)) where
-  held-is : take held (at .buffer) ≡ heldBytes p at
-  unfolding heldBytes
+module _ (p : Params) (at : Point) (held : ℕ) (eh : held ≡ bufferedCount p (at .phase) (at .held)) where
+  held-is : take held (at .buffer) ≡ buffered p at
+  unfolding buffered
   held-is = ap (λ (n : ℕ). take n (at .buffer)) eh
 
-  length-held : Small p → length (at .buffer) ≡ 64 → length (heldBytes p at) ≡ held
+  length-held : Small p → length (at .buffer) ≡ 64 → length (buffered p at) ≡ held
   length-held f hb =
       ap length (sym held-is)
-      ∙ length-take-le held (at .buffer) (omega (arith, heldCount-bound p f (at .phase) (at .held)))
+      ∙ length-take-le held (at .buffer) (omega (arith, bufferedCount-bound p f (at .phase) (at .held)))
 
 -- ---- The end of a sealing.
 
 module _ (e : SparkleEngine) (hw : length (e .current .words) ≡ 16) (hb : length (e .current .buffer) ≡ 64)
     (hk : length (e .pair .key) ≡ 32) (held : ℕ)
-    (eh : held ≡ heldCount (paramsOf (e .variant)) (e .current .phase) (e .current .held)) (words tag : List ℕ)
+    (eh : held ≡ bufferedCount (paramsOf (e .variant)) (e .current .phase) (e .current .held)) (words tag : List ℕ)
     (ew : words
     ≡ putState (paramsOf (e .variant)) (e .current .words)
     (lastState (paramsOf (e .variant)) (stateIn (paramsOf (e .variant)) (e .current .words))
@@ -141,7 +141,7 @@ module _ (e : SparkleEngine) (hw : length (e .current .words) ≡ 16) (hb : leng
       tag (rw (held-is p (e .current) held eh) at ew) et
 
   pub sealed : (steps : ℕ) → steps ≡ cond (ltb 0 held) (paramsOf (e .variant) .big) 0
-      → _≡_ {A = End} (record { mac = record { readable = true; bytes = tag }; steps = steps }) (sealedEnd e)
+      → _≡_ {A = End} (record { mac = record { readable = true; bytes = tag }; steps = steps }) (sealEnd e)
   unfolding readable lastSteps
   sealed steps es =
       rw (tag-sealed, es, length-held (paramsOf (e .variant)) (e .current) held eh (small (e .variant)) hb) refl
@@ -159,7 +159,7 @@ module _ (e : SparkleEngine) (hw : length (e .current .words) ≡ 16) (hb : leng
       let h = sizes (e .variant) in
       let f = small (e .variant) in
       let w = e .current .words in
-      let b = heldBytes p (e .current) in
+      let b = buffered p (e .current) in
       let last = length-last p h f w hw b held (length-held p (e .current) held eh f hb) within in
       let size = length-tag p h f w hw (e .pair .key) b b hk in
       paste-behind out bytes tag _ _ out₁ out₂ held k e₁
@@ -181,9 +181,9 @@ pub record Opening (e : SparkleEngine) (body : ℕ) (plain tag : List ℕ) (step
 
 module _ (e : SparkleEngine) (hw : length (e .current .words) ≡ 16) (hb : length (e .current .buffer) ≡ 64)
     (hk : length (e .pair .key) ≡ 32) (held size : ℕ)
-    (eh : held ≡ heldCount (paramsOf (e .variant)) (e .current .phase) (e .current .held))
+    (eh : held ≡ bufferedCount (paramsOf (e .variant)) (e .current .phase) (e .current .held))
     (ez : size ≡ paramsOf (e .variant) .key) (enough : size ≤ held) where
-  body-is : length (heldBytes (paramsOf (e .variant)) (e .current)) - paramsOf (e .variant) .key ≡ held - size
+  body-is : length (buffered (paramsOf (e .variant)) (e .current)) - paramsOf (e .variant) .key ≡ held - size
   body-is = omega (arith, length-held (paramsOf (e .variant)) (e .current) held eh (small (e .variant)) hb)
 
   block-is : take (held - size) (e .current .buffer) ≡ openBlock e
@@ -197,7 +197,7 @@ module _ (e : SparkleEngine) (hw : length (e .current .words) ≡ 16) (hb : leng
   received-is =
       let b = e .current .buffer in
       let split : held ≡ held - size + size = omega arith in
-      let bound = heldCount-bound (paramsOf (e .variant)) (small (e .variant)) (e .current .phase) (e .current .held) in
+      let bound = bufferedCount-bound (paramsOf (e .variant)) (small (e .variant)) (e .current .phase) (e .current .held) in
       rw (body-is, ← held-is (paramsOf (e .variant)) (e .current) held eh)
       (sym (ap (λ (n : ℕ). drop (held - size) (take n b)) split ∙ ap (drop (held - size)) (take-add (held - size) size b)
       ∙ drop-at (take (held - size) b) (take size (drop (held - size) b)) (held - size)
@@ -259,22 +259,22 @@ module _ {e : SparkleEngine} {body steps : ℕ} {plain tag : List ℕ} {equal : 
   -- the received tag is right
   pub opened : equal ≡ true
       → _≡_ {A = End} (record { mac = record { readable = true; bytes = tag }; steps = steps })
-      (openedEnd (same (receivedTag e) (openTag e)) e)
+      (openEnd (same (receivedTag e) (openTag e)) e)
   unfolding readable
   opened right = rw (sym (o .verdict) ∙ right, o .mac, o .run) refl
 
   pub opened-out : (out out₁ : List ℕ) → equal ≡ true → out₁ ≡ paste out 0 plain body
-      → out₁ ≡ written (openEndOutBy (same (receivedTag e) (openTag e)) e) out
+      → out₁ ≡ written (openEndOut (same (receivedTag e) (openTag e)) e) out
   opened-out out out₁ right e₁ =
       rw (sym (o .verdict) ∙ right) (e₁ ∙ paste-front out plain (openLast e) body (o .bytes) (o .last))
 
   -- it is wrong
   pub unopened : (mac : Mac) → equal ≡ false → mac ≡ noMac
-      → _≡_ {A = End} (record { mac = mac; steps = steps }) (openedEnd (same (receivedTag e) (openTag e)) e)
+      → _≡_ {A = End} (record { mac = mac; steps = steps }) (openEnd (same (receivedTag e) (openTag e)) e)
   unopened mac wrong em = rw (sym (o .verdict) ∙ wrong, em, o .run) refl
 
   pub unopened-out : (out out₁ bytes : List ℕ) → equal ≡ false → out₁ ≡ paste out 0 bytes body → bytes ≡ zeros 64
-      → out₁ ≡ written (openEndOutBy (same (receivedTag e) (openTag e)) e) out
+      → out₁ ≡ written (openEndOut (same (receivedTag e) (openTag e)) e) out
   unopened-out out out₁ bytes wrong e₁ eb =
       rw (sym (o .verdict) ∙ wrong, o .block)
       (e₁

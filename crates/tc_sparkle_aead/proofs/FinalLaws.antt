@@ -17,15 +17,15 @@ use Rattle.tc_aead_cipher.specs.declared.phase.Phase.the-variants.{Uninitialize
 use Rattle.tc_aead_cipher.specs.declared.aead_error.AeadError.{AeadError}
 use Rattle.tc_aead_cipher.specs.declared.aead_error.AeadResult.{AeadResult}
 use Rattle.tc_aead_cipher.specs.declared.aead_error.AeadResult.the-variants.{Ok, Err}
-use Rattle.tc_sparkle_aead.specs.declared.engine.Point.{Point}
-use Rattle.tc_sparkle_aead.specs.declared.engine.End.{End}
+use Rattle.tc_sparkle_aead.specs.declared.message.Point.{Point}
+use Rattle.tc_sparkle_aead.specs.declared.message.End.{End}
 use Rattle.tc_sparkle_aead.specs.declared.engine.Done.{Done}
 use Rattle.tc_sparkle_aead.specs.declared.engine.SparkleEngine.{SparkleEngine}
 use Rattle.tc_aead_cipher.specs.Variant.{paramsOf}
-use Rattle.tc_aead_cipher.specs.Checks.{opening, keep, heldIn, then, within64, room, phaseCheck, totalLen, whole, endCheck}
+use Rattle.tc_aead_cipher.specs.Checks.{opening, keep, heldData, then, within64, room, phaseCheck, totalLen, whole, endCheck}
 use Rattle.tc_sparkle_aead.specs.Engine.{noMac, currentKey}
-use Rattle.tc_sparkle_aead.specs.Calls.{heldCount, atPoint, begun, begunSteps, beginData, written, messageAt, sealLast, sealTag, sealEnd, openBlock, openLast, receivedTag, openTag, ended, endedBy, readable, answered, sealedEnd, openedEnd, openEnd, openEndBy, openEndOutBy, finalBy, finalOutBy, finalAnswer, doFinal, doFinalOut}
-use Rattle.tc_sparkle_aead.proofs.BeginLaws.{begun-held, begin-ended, begin-message}
+use Rattle.tc_sparkle_aead.specs.Calls.{bufferedCount, atPoint, beginPoint, beginSteps, beginData, written, messageAt, sealLast, sealTag, sealFinal, openBlock, openLast, receivedTag, openTag, finalEngine, finish, readable, answered, sealEnd, openEnd, openFinal, openFinalBy, openEndOut, finalBy, finalOutBy, finalAnswer, doFinal, doFinalOut}
+use Rattle.tc_sparkle_aead.proofs.BeginLaws.{begin-held, begin-ended, begin-message}
 
 -- ---- A check that passes.
 
@@ -64,12 +64,12 @@ whole-passed h key n m = by (ltb h key) refl
     by true e passed = never-passed _ m passed
     by false e passed = ltb-false h key e
 
-pub heldIn-bound : (p : Params) (phase : Phase) (held : ℕ) → heldIn p phase held ≤ keep p phase + p .rate
-heldIn-bound p Uninitialized held = omega arith
-heldIn-bound p (Init d) held = omega arith
-heldIn-bound p (Aad d) held = omega arith
-heldIn-bound p (Data d) held = omega arith
-heldIn-bound p (Final d) held = omega arith
+pub heldData-bound : (p : Params) (phase : Phase) (held : ℕ) → heldData p phase held ≤ keep p phase + p .rate
+heldData-bound p Uninitialized held = omega arith
+heldData-bound p (Init d) held = omega arith
+heldData-bound p (Aad d) held = omega arith
+heldData-bound p (Data d) held = omega arith
+heldData-bound p (Final d) held = omega arith
 
 module _ (p : Params) (phase : Phase) (held available n : ℕ) (passed : endCheck p phase held available ≡ Ok n) where
   parts : Passed (then (totalLen p phase held 0) (room available)) (whole p phase held) n
@@ -84,56 +84,56 @@ module _ (p : Params) (phase : Phase) (held available n : ℕ) (passed : endChec
   total-room : total .count ≤ available
   total-room = room-passed available (total .count) (parts .count) (total .two)
 
-  sealing-room : opening phase ≡ false → heldIn p phase held + p .key ≤ available
+  sealing-room : opening phase ≡ false → heldData p phase held + p .key ≤ available
   unfolding totalLen
   sealing-room seals =
-      omega (arith, total-room, within64-passed (heldIn p phase held + 0 + p .key) _ _ (rw seals at (total .one)))
+      omega (arith, total-room, within64-passed (heldData p phase held + 0 + p .key) _ _ (rw seals at (total .one)))
 
-  opening-room : opening phase ≡ true → heldIn p phase held ≤ available + p .key
+  opening-room : opening phase ≡ true → heldData p phase held ≤ available + p .key
   unfolding totalLen
   opening-room opens =
-      omega (arith, total-room, within64-passed (heldIn p phase held + 0) _ _ (rw opens at (total .one)))
+      omega (arith, total-room, within64-passed (heldData p phase held + 0) _ _ (rw opens at (total .one)))
 
-  opening-whole : opening phase ≡ true → p .key ≤ heldIn p phase held
-  opening-whole opens = whole-passed (heldIn p phase held) (p .key) _ n (rw opens at (parts .two))
+  opening-whole : opening phase ≡ true → p .key ≤ heldData p phase held
+  opening-whole opens = whole-passed (heldData p phase held) (p .key) _ n (rw opens at (parts .two))
 
 -- ---- The call.
 
 -- the end of an opening gives its tag, and a readable one where the received tag is right
 open-end-by : (right : Bool) (e : SparkleEngine) (n : ℕ)
-    → endedBy e (answered (Ok n) (openedEnd right e .mac)) Decrypt (openedEnd right e .mac) (openedEnd right e .steps)
-    ≡ openEndBy right e n
-unfolding endedBy readable noMac
+    → finish e (answered (Ok n) (openEnd right e .mac)) Decrypt (openEnd right e .mac) (openEnd right e .steps)
+    ≡ openFinalBy right e n
+unfolding finish readable noMac
 open-end-by true e n = refl
 open-end-by false e n = refl
 
 -- it depends on the message alone
 module _ (e : SparkleEngine) where
-  opened-message : (right : Bool) → openedEnd right (messageAt (e .variant) (e .current) (e .pair)) ≡ openedEnd right e
+  opened-message : (right : Bool) → openEnd right (messageAt (e .variant) (e .current) (e .pair)) ≡ openEnd right e
   unfolding openTag openLast openBlock currentKey
   opened-message true = refl
   opened-message false = refl
 
   opened-out-message : (right : Bool)
-      → openEndOutBy right (messageAt (e .variant) (e .current) (e .pair)) ≡ openEndOutBy right e
+      → openEndOut right (messageAt (e .variant) (e .current) (e .pair)) ≡ openEndOut right e
   unfolding openLast openBlock
   opened-out-message true = refl
   opened-out-message false = refl
 
 -- the check has passed with n, the data begins at a point, and the direction is told
-pub record Taken (e : SparkleEngine) (at : Point) (out : List ℕ) (n : ℕ) (opens : Bool) : Type 0 where
+pub record Accepted (e : SparkleEngine) (at : Point) (out : List ℕ) (n : ℕ) (opens : Bool) : Type 0 where
   pub passed : finalAnswer e (length out) ≡ Ok n
-  pub begins : at ≡ begun (paramsOf (e .variant)) (e .current .phase) (e .current)
+  pub begins : at ≡ beginPoint (paramsOf (e .variant)) (e .current .phase) (e .current)
   pub direction : opens ≡ opening (e .current .phase)
 
-module _ {e : SparkleEngine} {at : Point} {out : List ℕ} {n : ℕ} {opens : Bool} (t : Taken e at out n opens) where
-  same-held : heldCount (paramsOf (e .variant)) (at .phase) (at .held)
-      ≡ heldIn (paramsOf (e .variant)) (e .current .phase) (e .current .held)
-  same-held = rw (t .begins) (begun-held (paramsOf (e .variant)) (e .current .phase) (e .current) refl)
+module _ {e : SparkleEngine} {at : Point} {out : List ℕ} {n : ℕ} {opens : Bool} (t : Accepted e at out n opens) where
+  same-held : bufferedCount (paramsOf (e .variant)) (at .phase) (at .held)
+      ≡ heldData (paramsOf (e .variant)) (e .current .phase) (e .current .held)
+  same-held = rw (t .begins) (begin-held (paramsOf (e .variant)) (e .current .phase) (e .current) refl)
 
-  bound : heldIn (paramsOf (e .variant)) (e .current .phase) (e .current .held)
+  bound : heldData (paramsOf (e .variant)) (e .current .phase) (e .current .held)
       ≤ keep (paramsOf (e .variant)) (e .current .phase) + paramsOf (e .variant) .rate
-  bound = heldIn-bound (paramsOf (e .variant)) (e .current .phase) (e .current .held)
+  bound = heldData-bound (paramsOf (e .variant)) (e .current .phase) (e .current .held)
 
   -- the engine in which the data begins, as far as an end depends on it
   message-is : messageAt (e .variant) at (e .pair)
@@ -144,16 +144,16 @@ module _ {e : SparkleEngine} {at : Point} {out : List ℕ} {n : ℕ} {opens : Bo
 
   -- an engine that has ended, by what the end gave
   ended-is : (answer : AeadResult) → answer ≡ Ok n → (first : ℕ)
-      → first ≡ begunSteps (paramsOf (e .variant)) (e .current .phase) → (x : Point) (d : Direction) (end end′ : End)
+      → first ≡ beginSteps (paramsOf (e .variant)) (e .current .phase) → (x : Point) (d : Direction) (end end′ : End)
       → end ≡ end′
-      → endedBy (atPoint e x first) (answered answer (end .mac)) d (end .mac) (end .steps)
-      ≡ endedBy (beginData e) (answered (Ok n) (end′ .mac)) d (end′ .mac) (end′ .steps)
-  unfolding endedBy beginData
+      → finish (atPoint e x first) (answered answer (end .mac)) d (end .mac) (end .steps)
+      ≡ finish (beginData e) (answered (Ok n) (end′ .mac)) d (end′ .mac) (end′ .steps)
+  unfolding finish beginData
   ended-is answer told first ef x d end end′ ee =
       let begins =
-      ap (λ (k : ℕ). ended (atPoint e x k) d (end′ .mac) (end′ .steps)) ef
+      ap (λ (k : ℕ). finalEngine (atPoint e x k) d (end′ .mac) (end′ .steps)) ef
       ∙ begin-ended e (e .current .phase) x d (end′ .mac) (end′ .steps) in
-      ap (λ (y : End). endedBy (atPoint e x first) (answered answer (y .mac)) d (y .mac) (y .steps)) ee
+      ap (λ (y : End). finish (atPoint e x first) (answered answer (y .mac)) d (y .mac) (y .steps)) ee
       ∙ (λ i. record { answer = answered (told i) (end′ .mac); engine = begins i })
 
   -- a sealing
@@ -161,8 +161,8 @@ module _ {e : SparkleEngine} {at : Point} {out : List ℕ} {n : ℕ} {opens : Bo
     sealing : opening (e .current .phase) ≡ false
     sealing = sym (t .direction) ∙ seals
 
-    pub seal-fits : (heldCount (paramsOf (e .variant)) (at .phase) (at .held) ≤ paramsOf (e .variant) .rate)
-        × (heldCount (paramsOf (e .variant)) (at .phase) (at .held) + paramsOf (e .variant) .key ≤ length out)
+    pub seal-fits : (bufferedCount (paramsOf (e .variant)) (at .phase) (at .held) ≤ paramsOf (e .variant) .rate)
+        × (bufferedCount (paramsOf (e .variant)) (at .phase) (at .held) + paramsOf (e .variant) .key ≤ length out)
     seal-fits =
         rw same-held (
           omega (arith, rw sealing at bound),
@@ -170,14 +170,14 @@ module _ {e : SparkleEngine} {at : Point} {out : List ℕ} {n : ℕ} {opens : Bo
         )
 
     pub final-sealed : (answer : AeadResult) → answer ≡ Ok n → (first : ℕ)
-        → first ≡ begunSteps (paramsOf (e .variant)) (e .current .phase) → (x : Point) (end : End)
-        → end ≡ sealedEnd (messageAt (e .variant) at (e .pair)) → (done : Done)
-        → done ≡ endedBy (atPoint e x first) (answered answer (end .mac)) Encrypt (end .mac) (end .steps)
+        → first ≡ beginSteps (paramsOf (e .variant)) (e .current .phase) → (x : Point) (end : End)
+        → end ≡ sealEnd (messageAt (e .variant) at (e .pair)) → (done : Done)
+        → done ≡ finish (atPoint e x first) (answered answer (end .mac)) Encrypt (end .mac) (end .steps)
         → done ≡ doFinal e out
-    unfolding doFinal sealEnd endedBy sealTag currentKey readable
+    unfolding doFinal sealFinal finish sealTag currentKey readable
     final-sealed answer told first ef x end ee done ed =
         rw (t .passed, sealing)
-        (ed ∙ ended-is answer told first ef x Encrypt end (sealedEnd (beginData e)) (ee ∙ ap sealedEnd message-is))
+        (ed ∙ ended-is answer told first ef x Encrypt end (sealEnd (beginData e)) (ee ∙ ap sealEnd message-is))
 
     pub final-sealed-out : (out₁ : List ℕ)
         → out₁
@@ -193,9 +193,9 @@ module _ {e : SparkleEngine} {at : Point} {out : List ℕ} {n : ℕ} {opens : Bo
     opened : opening (e .current .phase) ≡ true
     opened = sym (t .direction) ∙ is-opening
 
-    pub open-fits : (paramsOf (e .variant) .key ≤ heldCount (paramsOf (e .variant)) (at .phase) (at .held))
-        × (heldCount (paramsOf (e .variant)) (at .phase) (at .held) ≤ paramsOf (e .variant) .rate + paramsOf (e .variant) .key)
-        × (heldCount (paramsOf (e .variant)) (at .phase) (at .held) ≤ length out + paramsOf (e .variant) .key)
+    pub open-fits : (paramsOf (e .variant) .key ≤ bufferedCount (paramsOf (e .variant)) (at .phase) (at .held))
+        × (bufferedCount (paramsOf (e .variant)) (at .phase) (at .held) ≤ paramsOf (e .variant) .rate + paramsOf (e .variant) .key)
+        × (bufferedCount (paramsOf (e .variant)) (at .phase) (at .held) ≤ length out + paramsOf (e .variant) .key)
     open-fits =
         rw same-held (
           opening-whole (paramsOf (e .variant)) (e .current .phase) (e .current .held) (length out) n (t .passed) opened,
@@ -204,34 +204,34 @@ module _ {e : SparkleEngine} {at : Point} {out : List ℕ} {n : ℕ} {opens : Bo
         )
 
     pub final-opened : (answer : AeadResult) → answer ≡ Ok n → (first : ℕ)
-        → first ≡ begunSteps (paramsOf (e .variant)) (e .current .phase) → (x : Point) (end : End)
+        → first ≡ beginSteps (paramsOf (e .variant)) (e .current .phase) → (x : Point) (end : End)
         → end
-        ≡ openedEnd
+        ≡ openEnd
         (same (receivedTag (messageAt (e .variant) at (e .pair))) (openTag (messageAt (e .variant) at (e .pair))))
         (messageAt (e .variant) at (e .pair))
-        → (done : Done) → done ≡ endedBy (atPoint e x first) (answered answer (end .mac)) Decrypt (end .mac) (end .steps)
+        → (done : Done) → done ≡ finish (atPoint e x first) (answered answer (end .mac)) Decrypt (end .mac) (end .steps)
         → done ≡ doFinal e out
-    unfolding doFinal openEnd receivedTag openTag openLast openBlock currentKey
+    unfolding doFinal openFinal receivedTag openTag openLast openBlock currentKey
     final-opened answer told first ef x end ee done ed =
         let right = same (receivedTag (beginData e)) (openTag (beginData e)) in
         rw (t .passed, opened)
         (ed
-        ∙ ended-is answer told first ef x Decrypt end (openedEnd right (beginData e))
-        (ee ∙ ap (λ (m : SparkleEngine). openedEnd (same (receivedTag m) (openTag m)) m) message-is
+        ∙ ended-is answer told first ef x Decrypt end (openEnd right (beginData e))
+        (ee ∙ ap (λ (m : SparkleEngine). openEnd (same (receivedTag m) (openTag m)) m) message-is
         ∙ opened-message (beginData e) right)
         ∙ open-end-by right (beginData e) n)
 
     pub final-opened-out : (out₁ : List ℕ)
         → out₁
         ≡ written
-        (openEndOutBy
+        (openEndOut
         (same (receivedTag (messageAt (e .variant) at (e .pair))) (openTag (messageAt (e .variant) at (e .pair))))
         (messageAt (e .variant) at (e .pair))) out
         → out₁ ≡ doFinalOut e out
     unfolding doFinalOut receivedTag openTag openLast openBlock currentKey
     final-opened-out out₁ ed =
         rw (t .passed, opened)
-        (ed ∙ ap (λ (m : SparkleEngine). written (openEndOutBy (same (receivedTag m) (openTag m)) m) out) message-is
+        (ed ∙ ap (λ (m : SparkleEngine). written (openEndOut (same (receivedTag m) (openTag m)) m) out) message-is
         ∙ ap (λ (bytes : List ℕ). written bytes out)
         (opened-out-message (beginData e) (same (receivedTag (beginData e)) (openTag (beginData e)))))
 

@@ -13,25 +13,25 @@ use Rattle.tc_aead_cipher.specs.declared.phase.Phase.the-variants.{Uninitialize
 use Rattle.tc_aead_cipher.specs.declared.aead_error.AeadError.{AeadError}
 use Rattle.tc_aead_cipher.specs.declared.aead_error.AeadResult.{AeadResult}
 use Rattle.tc_aead_cipher.specs.declared.aead_error.AeadResult.the-variants.{Ok, Err}
-use Rattle.tc_sparkle_aead.specs.declared.engine.Point.{Point}
+use Rattle.tc_sparkle_aead.specs.declared.message.Point.{Point}
 use Rattle.tc_sparkle_aead.specs.declared.engine.SparkleEngine.{SparkleEngine}
 use Rattle.tc_aead_cipher.specs.Variant.{paramsOf}
 use Rattle.tc_aead_cipher.specs.Checks.{directionOf, headerCheck, aadCheck}
-use Rattle.tc_sparkle_aead.specs.Calls.{streamed, atPoint, headed, headedSteps, aadIn, aadBy, processAadBytes}
+use Rattle.tc_sparkle_aead.specs.Calls.{streamed, atPoint, absorbHeader, headerSteps, aadIn, aadBy, processAadBytes}
 use Rattle.tc_aead_cipher.proofs.VariantLaws.{Small}
 
 -- no header, and a header
 module _ (p : Params) (d : Direction) (at : Point) where
-  pub headed-none : (header : List ℕ) → length header ≡ 0 → headed p d at header ≡ at
-  unfolding headed
-  headed-none [] h = refl
-  headed-none (x ∷ header) h = absurd (omega arith)
+  pub absorb-none : (header : List ℕ) → length header ≡ 0 → absorbHeader p d at header ≡ at
+  unfolding absorbHeader
+  absorb-none [] h = refl
+  absorb-none (x ∷ header) h = absurd (omega arith)
 
-  pub headed-some : (header : List ℕ) → 0 < length header
-      → headed p d at header ≡ streamed p 0 (absorbBlock p) (Aad d) at header
-  unfolding headed
-  headed-some [] h = absurd (omega arith)
-  headed-some (x ∷ header) h = refl
+  pub absorb-some : (header : List ℕ) → 0 < length header
+      → absorbHeader p d at header ≡ streamed p 0 (absorbBlock p) (Aad d) at header
+  unfolding absorbHeader
+  absorb-some [] h = absurd (omega arith)
+  absorb-some (x ∷ header) h = refl
 
 -- a header call without bytes
 pub aad-empty : (e : SparkleEngine) (input : List ℕ) → length input ≡ 0
@@ -43,8 +43,8 @@ aad-empty e (x ∷ input) none = absurd (omega arith)
 -- a phase whose check passes is Init or Aad, and the check counts nothing
 aadIn-passed : (phase : Phase) (n : ℕ) (e : SparkleEngine) (input : List ℕ) → headerCheck phase ≡ Ok n
     → aadIn phase e input
-    ≡ atPoint e (headed (paramsOf (e .variant)) (directionOf phase) (e .current) input)
-    (headedSteps (paramsOf (e .variant)) (e .current) input)
+    ≡ atPoint e (absorbHeader (paramsOf (e .variant)) (directionOf phase) (e .current) input)
+    (headerSteps (paramsOf (e .variant)) (e .current) input)
 aadIn-passed Uninitialized n e input passed = absurd (let z : _≡_ {A = ℕ} 0 1 = cc in omega arith)
 aadIn-passed (Init d) n e input passed = refl
 aadIn-passed (Aad d) n e input passed = refl
@@ -74,14 +74,14 @@ module _ (e : SparkleEngine) (input : List ℕ) (answer : AeadResult) (some : le
   aad-refused x told = (λ i. record { answer = told i; engine = e }) ∙ by-check (Err x) told
 
   pub aad-taken : (n : ℕ) → answer ≡ Ok n → (d : Direction) (next : Point) (steps : ℕ) (engine : SparkleEngine)
-      → d ≡ directionOf (e .current .phase) → next ≡ headed (paramsOf (e .variant)) d (e .current) input
-      → steps ≡ headedSteps (paramsOf (e .variant)) (e .current) input → engine ≡ atPoint e next steps
+      → d ≡ directionOf (e .current .phase) → next ≡ absorbHeader (paramsOf (e .variant)) d (e .current) input
+      → steps ≡ headerSteps (paramsOf (e .variant)) (e .current) input → engine ≡ atPoint e next steps
       → record { answer = answer; engine = engine } ≡ processAadBytes e input
   aad-taken n told d next steps engine ed ep es en =
       let p = paramsOf (e .variant) in
       let phase = e .current .phase in
       let passed = sym checked ∙ told in
-      let ep′ = ep ∙ ap (λ (x : Direction). headed p x (e .current) input) ed in
+      let ep′ = ep ∙ ap (λ (x : Direction). absorbHeader p x (e .current) input) ed in
       let en′ = en ∙ ap₂ (atPoint e) ep′ es ∙ sym (aadIn-passed phase n e input passed) in
       (λ i. record { answer = (checked ∙ count-zero phase n passed) i; engine = en′ i })
       ∙ sym (aadBy-some n e input (omega arith)) ∙ by-check (Ok n) told

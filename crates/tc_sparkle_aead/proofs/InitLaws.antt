@@ -12,15 +12,15 @@ use Rattle.schwaemm.proofs.RoundTrip.{equal-of-same}
 use Rattle.tc_aead_cipher.specs.declared.phase.Direction.{Direction}
 use Rattle.tc_aead_cipher.specs.declared.aead_init_error.AeadInitError.{AeadInitError}
 use Rattle.tc_aead_cipher.specs.declared.aead_init_error.AeadInitResult.{AeadInitResult}
-use Rattle.tc_aead_cipher.specs.declared.aead_init_error.AeadInitResult.the-variants.{Ok as Taken, Err as Refused}
-use Rattle.tc_sparkle_aead.specs.declared.engine.Point.{Point}
+use Rattle.tc_aead_cipher.specs.declared.aead_init_error.AeadInitResult.the-variants.{Ok as Accepted, Err as Refused}
+use Rattle.tc_sparkle_aead.specs.declared.message.Point.{Point}
 use Rattle.tc_sparkle_aead.specs.declared.engine.Pair.{Pair}
 use Rattle.tc_sparkle_aead.specs.declared.engine.Mac.{Mac}
 use Rattle.tc_sparkle_aead.specs.declared.engine.SparkleEngine.{SparkleEngine}
 use Rattle.tc_aead_cipher.specs.Variant.{paramsOf}
 use Rattle.tc_aead_cipher.specs.Checks.{startCheck}
 use Rattle.tc_sparkle_aead.specs.Engine.{noMac, newEngine, repeats, remember, initSteps}
-use Rattle.tc_sparkle_aead.specs.Calls.{startPoint, headed, headedSteps, started, refused, initBy, init}
+use Rattle.tc_sparkle_aead.specs.Calls.{startPoint, absorbHeader, headerSteps, started, refused, initBy, init}
 
 -- lists of different lengths differ
 differ-by : (u v : List ℕ) (t : Bool) → same u v ≡ t → (length u ≡ length v → ⊥) → same u v ≡ false
@@ -67,9 +67,9 @@ module _ (p : Params) (pair : Pair) (key nonce : List ℕ) where
 -- the engine after a start that is taken
 pub started-is : (e : SparkleEngine) (d : Direction) (key nonce header : List ℕ) (at point : Point) (pair : Pair) (mac : Mac)
     (big steps count : ℕ)
-    → at ≡ startPoint (paramsOf (e .variant)) d key nonce → point ≡ headed (paramsOf (e .variant)) d at header
+    → at ≡ startPoint (paramsOf (e .variant)) d key nonce → point ≡ absorbHeader (paramsOf (e .variant)) d at header
     → pair ≡ remember key nonce → mac ≡ noMac → big ≡ paramsOf (e .variant) .big
-    → steps ≡ headedSteps (paramsOf (e .variant)) at header → count ≡ (big + steps) % 2 ^ 64
+    → steps ≡ headerSteps (paramsOf (e .variant)) at header → count ≡ (big + steps) % 2 ^ 64
     → _≡_ {A = SparkleEngine}
     (record {
       variant = e .variant;
@@ -83,8 +83,8 @@ pub started-is : (e : SparkleEngine) (d : Direction) (key nonce header : List �
 unfolding started initSteps
 started-is e d key nonce header at point pair mac big steps count ea ep er em eb es ec =
     let p = paramsOf (e .variant) in
-    let ep′ = ep ∙ ap (λ (x : Point). headed p d x header) ea in
-    let es′ = es ∙ ap (λ (x : Point). headedSteps p x header) ea in
+    let ep′ = ep ∙ ap (λ (x : Point). absorbHeader p d x header) ea in
+    let es′ = es ∙ ap (λ (x : Point). headerSteps p x header) ea in
     let ec′ = ec ∙ ap₂ (λ (x y : ℕ). (x + y) % 2 ^ 64) eb es′ in
     λ i. record {
       variant = e .variant;
@@ -111,9 +111,9 @@ module _ (e : SparkleEngine) (d : Direction) (key nonce : List ℕ) (size : ℕ)
       ap (λ (x : AeadInitResult). initBy x e d key nonce header)
       (sym told ∙ ec ∙ ap (startCheck (paramsOf (e .variant)) d (length key) (length nonce) size) ea)
 
-  pub init-taken : check ≡ Taken → engine ≡ started e d key nonce header
+  pub init-taken : check ≡ Accepted → engine ≡ started e d key nonce header
       → record { answer = check; engine = engine } ≡ init e d key nonce size header
-  init-taken told en = (λ i. record { answer = told i; engine = en i }) ∙ init-by Taken told
+  init-taken told en = (λ i. record { answer = told i; engine = en i }) ∙ init-by Accepted told
 
   pub init-refused : (x : AeadInitError) → check ≡ Refused x → engine ≡ refused e
       → record { answer = check; engine = engine } ≡ init e d key nonce size header

@@ -105,9 +105,9 @@ module _ (p : Params) (z : Sizes p) (words : List ℕ) (h : stateLength p ≤ le
       (inner-at p z words)
       (omega arith) (ltb k (p .key / 4)) refl
 
--- the rate's words of a block that is taken up by the state
-unfoldable pub taken : Params → List ℕ → List ℕ → List ℕ
-taken p s b = xors (rho1 p (outer p s) (toWords b)) (whitening p (inner p s))
+-- the rate's words of a block that is xorBlock up by the state
+unfoldable pub xorBlock : Params → List ℕ → List ℕ → List ℕ
+xorBlock p s b = xors (rho1 p (outer p s) (toWords b)) (whitening p (inner p s))
 
 module _ (p : Params) (z : Sizes p) (words block : List ℕ) (h : stateLength p ≤ length words) (b : p .rate ≤ length block) where
   length-mixed : length (mixed p (stateIn p words) (take (p .rate) block)) ≡ stateLength p
@@ -115,8 +115,8 @@ module _ (p : Params) (z : Sizes p) (words block : List ℕ) (h : stateLength p 
       mix-exact p z (stateIn p words) (state-length p words h) (take (p .rate) block)
       (length-take-le (p .rate) block b)
 
-  length-taken : length (taken p (stateIn p words) (take (p .rate) block)) ≡ p .rate / 4
-  unfolding taken
+  length-taken : length (xorBlock p (stateIn p words) (take (p .rate) block)) ≡ p .rate / 4
+  unfolding xorBlock
   length-taken =
       let i = length-inner p z (stateIn p words) (state-length p words h) in
       omega (arith, simp length-append at length-mixed)
@@ -130,8 +130,8 @@ module _ (p : Params) (z : Sizes p) (words block : List ℕ) (h : stateLength p 
 
   taken-at : (k : ℕ) → k < p .rate / 4
       → bitXor (bitXor (feedbackAt words (p .rate / 8) k) (getD (toWords block) k 0)) (whiteningAt words (p .rate / 4) (p .key / 4) k)
-      ≡ getD (taken p (stateIn p words) (take (p .rate) block)) k 0
-  unfolding taken rho1
+      ≡ getD (xorBlock p (stateIn p words) (take (p .rate) block)) k 0
+  unfolding xorBlock rho1
   taken-at k i =
       let s = stateIn p words in
       let f = feistelSwap p (outer p s) in
@@ -145,8 +145,8 @@ module _ (p : Params) (z : Sizes p) (words block : List ℕ) (h : stateLength p 
       (white-at p z words h k i))
 
   -- a turn of the loop that lays them over the array, in the loop's terms
-  pub taken-turn : {rate key half k fed word white : ℕ} {v : List ℕ}
-      → v ≡ laid (taken p (stateIn p words) (take (p .rate) block)) words k
+  pub xorBlock-turn : {rate key half k fed word white : ℕ} {v : List ℕ}
+      → v ≡ laid (xorBlock p (stateIn p words) (take (p .rate) block)) words k
       → fed ≡ feedbackAt words half k
       → word ≡ getD (toWords block) k 0
       → white ≡ whiteningAt words rate key k
@@ -154,19 +154,19 @@ module _ (p : Params) (z : Sizes p) (words block : List ℕ) (h : stateLength p 
       → key ≡ p .key / 4
       → half ≡ p .rate / 8
       → k < rate
-      → set v k (bitXor (bitXor fed word) white) ≡ laid (taken p (stateIn p words) (take (p .rate) block)) words (k + 1)
-  taken-turn {k = k} e f w x er ek eh i =
+      → set v k (bitXor (bitXor fed word) white) ≡ laid (xorBlock p (stateIn p words) (take (p .rate) block)) words (k + 1)
+  xorBlock-turn {k = k} e f w x er ek eh i =
       let n = length-taken in
       laid-turn _ words e
       (rw (f, w, x, er, ek, eh) (taken-at k (omega arith)))
       (omega arith) (omega arith)
 
   -- the array once the rate's words are laid over it is the one that is permuted
-  taken-end : {v : List ℕ} → v ≡ laid (taken p (stateIn p words) (take (p .rate) block)) words (p .rate / 4)
+  taken-end : {v : List ℕ} → v ≡ laid (xorBlock p (stateIn p words) (take (p .rate) block)) words (p .rate / 4)
       → v ≡ putState p words (mixed p (stateIn p words) (take (p .rate) block))
-  unfolding laid putState taken stateIn inner
+  unfolding laid putState xorBlock stateIn inner
   taken-end e =
-      let front = taken p (stateIn p words) (take (p .rate) block) in
+      let front = xorBlock p (stateIn p words) (take (p .rate) block) in
       let r = p .rate / 4 in
       let s = stateIn p words in
       let rest = drop (stateLength p) words in
@@ -177,7 +177,7 @@ module _ (p : Params) (z : Sizes p) (words block : List ℕ) (h : stateLength p 
       ∙ sym (append-assoc front (inner p s) rest)
 
   pub mix-end : (steps : ℕ) {n : ℕ} {v result : List ℕ}
-      → v ≡ laid (taken p (stateIn p words) (take (p .rate) block)) words n
+      → v ≡ laid (xorBlock p (stateIn p words) (take (p .rate) block)) words n
       → result ≡ putState p v (permute p steps (stateIn p v))
       → n ≡ p .rate / 4
       → result ≡ putState p words (mix p steps (stateIn p words) (take (p .rate) block))

@@ -11,7 +11,7 @@ use denote.Enum.Declared.{tagOf}
 use Rattle.tc_aead_cipher.specs.declared.phase.Direction.the-variants.{Encrypt, Decrypt}
 use Rattle.tc_aead_cipher.specs.declared.phase.Phase.{Phase}
 use Rattle.tc_aead_cipher.specs.declared.phase.Phase.the-variants.{Uninitialized, Init, Aad, Data, Final}
-use Rattle.tc_sparkle_aead.specs.declared.engine.Point.{Point}
+use Rattle.tc_sparkle_aead.specs.declared.message.Point.{Point}
 use Rattle.tc_aead_cipher.specs.Checks.{opening}
 use Rattle.tc_sparkle_aead.specs.Calls.{finalPoint, resetPoint}
 use Rattle.tc_aead_cipher.proofs.phase.Phase.{the-type}

@@ -14,7 +14,7 @@ use Rattle.tc_aead_cipher.specs.Variant.{paramsOf}
 use Rattle.tc_aead_cipher.specs.Refusals.{refusal}
 use Rattle.tc_aead_cipher.specs.Checks.{updateLen, totalLen, endCheck}
 use Rattle.tc_sparkle_aead.specs.Engine.{noMessage, newEngine, repeats, updateOutputLen, outputLen}
-use Rattle.tc_sparkle_aead.specs.Calls.{streamed, headed, started, initBy, init, doFinal}
+use Rattle.tc_sparkle_aead.specs.Calls.{streamed, absorbHeader, started, initBy, init, doFinal}
 use Rattle.tc_aead_cipher.specs.declared.variant.SparkleVariant.{SparkleVariant}
 use Rattle.tc_aead_cipher.specs.declared.variant.SparkleVariant.the-variants.{«Schwaemm128_128», «Schwaemm256_128», «Schwaemm192_192», «Schwaemm256_256»}
 use Rattle.tc_aead_cipher.specs.declared.phase.Direction.the-variants.{Encrypt, Decrypt}
@@ -77,7 +77,7 @@ ended-in-aad e s out = rw (s .variant, s .phase-is, le-ltb (length out) 0 zero-l
 -- An initial header of 16 bytes leads there.
 after-init : (key nonce header : List ℕ) → length key ≡ 16 → length nonce ≡ 16 → length header ≡ 16
     → In «Schwaemm128_128» (Aad Decrypt) (init (newEngine «Schwaemm128_128») Decrypt key nonce 16 header .engine)
-unfolding init started headed streamed newEngine
+unfolding init started absorbHeader streamed newEngine
 after-init key nonce [] k n h = absurd (omega arith)
 after-init key nonce (x ∷ header) k n h =
     let p = paramsOf «Schwaemm128_128» in

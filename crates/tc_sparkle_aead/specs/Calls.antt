@@ -19,17 +19,17 @@ use Rattle.tc_aead_cipher.specs.declared.aead_error.AeadResult.the-variants.{Ok
 use Rattle.tc_aead_cipher.specs.declared.aead_init_error.AeadInitResult.{AeadInitResult}
 use Rattle.tc_aead_cipher.specs.declared.aead_init_error.AeadInitResult.the-variants.{Ok as StartOk, Err as StartErr}
 use Rattle.tc_aead_cipher.specs.declared.variant.SparkleVariant.{SparkleVariant}
-use Rattle.tc_sparkle_aead.specs.declared.engine.Point.{Point}
+use Rattle.tc_sparkle_aead.specs.declared.message.Point.{Point}
 use Rattle.tc_sparkle_aead.specs.declared.engine.Pair.{Pair}
 use Rattle.tc_sparkle_aead.specs.declared.engine.Mac.{Mac}
 use Rattle.tc_sparkle_aead.specs.declared.engine.Steps.{Steps}
 use Rattle.tc_sparkle_aead.specs.declared.engine.SparkleEngine.{SparkleEngine}
 use Rattle.tc_sparkle_aead.specs.declared.engine.Done.{Done}
-use Rattle.tc_sparkle_aead.specs.declared.engine.Progress.{Progress}
-use Rattle.tc_sparkle_aead.specs.declared.engine.End.{End}
+use Rattle.tc_sparkle_aead.specs.declared.message.Progress.{Progress}
+use Rattle.tc_sparkle_aead.specs.declared.message.End.{End}
 use Rattle.tc_sparkle_aead.specs.declared.engine.Started.{Started}
 use Rattle.tc_aead_cipher.specs.Variant.{paramsOf}
-use Rattle.tc_aead_cipher.specs.Checks.{opening, keep, heldIn, aadCheck, dataCheck, endCheck, startCheck}
+use Rattle.tc_aead_cipher.specs.Checks.{opening, keep, heldData, aadCheck, dataCheck, endCheck, startCheck}
 use Rattle.tc_sparkle_aead.specs.Engine.{zeros, inArray, noMessage, noMac, repeats, remember, currentKey, noSteps, initSteps, resetSteps}
 
 -- ---- A point of a message
@@ -50,24 +50,24 @@ unfoldable pub whiteningAt : List ℕ → ℕ → ℕ → ℕ → ℕ
 whiteningAt words rate key k = cond (ltb k key) (getD words (rate + k) 0) (getD words (rate + (k - key)) 0)
 
 -- How many bytes a phase holds: of the header at most a block, of the data as document 01's h says.
-abbrev pub heldCount : Params → Phase → ℕ → ℕ
-heldCount p Uninitialized held = 0
-heldCount p (Init d) held = 0
-heldCount p (Aad d) held = min held (p .rate)
-heldCount p (Data d) held = heldIn p (Data d) held
-heldCount p (Final d) held = 0
+abbrev pub bufferedCount : Params → Phase → ℕ → ℕ
+bufferedCount p Uninitialized held = 0
+bufferedCount p (Init d) held = 0
+bufferedCount p (Aad d) held = min held (p .rate)
+bufferedCount p (Data d) held = heldData p (Data d) held
+bufferedCount p (Final d) held = 0
 
 -- The bytes that a point holds.
-unfoldable pub heldBytes : Params → Point → List ℕ
-heldBytes p at = take (heldCount p (at .phase) (at .held)) (at .buffer)
+unfoldable pub buffered : Params → Point → List ℕ
+buffered p at = take (bufferedCount p (at .phase) (at .held)) (at .buffer)
 
 -- The bytes that a point holds and those that come: what blocks are taken of.
 unfoldable pub stream : Params → Point → List ℕ → List ℕ
-stream p at input = heldBytes p at ++ input
+stream p at input = buffered p at ++ input
 
 -- How many blocks go while `keep` bytes and one more stay.
-unfoldable pub blocks : Params → ℕ → Point → List ℕ → ℕ
-blocks p keep at input = ready (p .rate) keep (length (stream p at input))
+unfoldable pub blockCount : Params → ℕ → Point → List ℕ → ℕ
+blockCount p keep at input = ready (p .rate) keep (length (stream p at input))
 
 -- The point, in a phase, after the blocks that go: `step` is what a block makes of the state.
 unfoldable pub streamed : Params → ℕ → (List ℕ → List ℕ → List ℕ) → Phase → Point → List ℕ → Point
@@ -76,7 +76,7 @@ streamed p keep step phase at input =
       phase = phase;
       words =
           putState p (at .words)
-          (after (p .rate) step (blocks p keep at input) (stateIn p (at .words)) (stream p at input));
+          (after (p .rate) step (blockCount p keep at input) (stateIn p (at .words)) (stream p at input));
       buffer = inArray 64 (held (p .rate) keep (stream p at input));
       held = length (held (p .rate) keep (stream p at input));
     }
@@ -117,24 +117,24 @@ startPoint p d key nonce =
     record { phase = Init d; words = inArray 16 (initialise p key nonce); buffer = zeros 64; held = 0 }
 
 -- A header that is not empty is absorbed and leads to Aad.
-unfoldable pub headed : Params → Direction → Point → List ℕ → Point
-headed p d at [] = at
-headed p d at (x ∷ header) = streamed p 0 (absorbBlock p) (Aad d) at (x ∷ header)
+unfoldable pub absorbHeader : Params → Direction → Point → List ℕ → Point
+absorbHeader p d at [] = at
+absorbHeader p d at (x ∷ header) = streamed p 0 (absorbBlock p) (Aad d) at (x ∷ header)
 
 -- The steps that this runs.
-unfoldable pub headedSteps : Params → Point → List ℕ → ℕ
-headedSteps p at header = blocks p 0 at header * p .slim
+unfoldable pub headerSteps : Params → Point → List ℕ → ℕ
+headerSteps p at header = blockCount p 0 at header * p .slim
 
 unfoldable pub started : SparkleEngine → Direction → List ℕ → List ℕ → List ℕ → SparkleEngine
 started e d key nonce header =
     let p = paramsOf (e .variant) in
     record {
       variant = e .variant;
-      current = headed p d (startPoint p d key nonce) header;
-      initial = headed p d (startPoint p d key nonce) header;
+      current = absorbHeader p d (startPoint p d key nonce) header;
+      initial = absorbHeader p d (startPoint p d key nonce) header;
       pair = remember key nonce;
       mac = noMac;
-      steps = initSteps ((p .big + headedSteps p (startPoint p d key nonce) header) % 2 ^ 64);
+      steps = initSteps ((p .big + headerSteps p (startPoint p d key nonce) header) % 2 ^ 64);
     }
 
 abbrev pub initBy : AeadInitResult → SparkleEngine → Direction → List ℕ → List ℕ → List ℕ → Started
@@ -153,10 +153,10 @@ abbrev pub aadIn : Phase → SparkleEngine → List ℕ → SparkleEngine
 aadIn Uninitialized e input = e
 aadIn (Init d) e input =
     let p = paramsOf (e .variant) in
-    atPoint e (headed p d (e .current) input) (headedSteps p (e .current) input)
+    atPoint e (absorbHeader p d (e .current) input) (headerSteps p (e .current) input)
 aadIn (Aad d) e input =
     let p = paramsOf (e .variant) in
-    atPoint e (headed p d (e .current) input) (headedSteps p (e .current) input)
+    atPoint e (absorbHeader p d (e .current) input) (headerSteps p (e .current) input)
 aadIn (Data d) e input = e
 aadIn (Final d) e input = e
 
@@ -184,19 +184,19 @@ afterHeader p d at =
     }
 
 -- The point where the data begins, and the steps that this runs. A point where it has begun stays.
-abbrev pub begun : Params → Phase → Point → Point
-begun p Uninitialized at = at
-begun p (Init d) at = withoutHeader d at
-begun p (Aad d) at = afterHeader p d at
-begun p (Data d) at = at
-begun p (Final d) at = at
+abbrev pub beginPoint : Params → Phase → Point → Point
+beginPoint p Uninitialized at = at
+beginPoint p (Init d) at = withoutHeader d at
+beginPoint p (Aad d) at = afterHeader p d at
+beginPoint p (Data d) at = at
+beginPoint p (Final d) at = at
 
-abbrev pub begunSteps : Params → Phase → ℕ
-begunSteps p Uninitialized = 0
-begunSteps p (Init d) = 0
-begunSteps p (Aad d) = p .big
-begunSteps p (Data d) = 0
-begunSteps p (Final d) = 0
+abbrev pub beginSteps : Params → Phase → ℕ
+beginSteps p Uninitialized = 0
+beginSteps p (Init d) = 0
+beginSteps p (Aad d) = p .big
+beginSteps p (Data d) = 0
+beginSteps p (Final d) = 0
 
 -- The engine when the data begins.
 abbrev pub beginBy : Phase → SparkleEngine → SparkleEngine
@@ -222,7 +222,7 @@ dataFrom p at input =
     let phase = at .phase in
     record {
       point = streamed p (keep p phase) (messageBlock p (plainOf p phase)) phase at input;
-      steps = blocks p (keep p phase) at input * p .slim;
+      steps = blockCount p (keep p phase) at input * p .slim;
     }
 
 unfoldable pub dataIn : SparkleEngine → List ℕ → SparkleEngine
@@ -231,7 +231,7 @@ dataIn e input =
 
 unfoldable pub streamOut : Params → Point → List ℕ → List ℕ
 streamOut p at input =
-    given (p .rate) (messageBlock p (plainOf p (at .phase))) (crypt p) (blocks p (keep p (at .phase)) at input)
+    given (p .rate) (messageBlock p (plainOf p (at .phase))) (crypt p) (blockCount p (keep p (at .phase)) at input)
     (stateIn p (at .words)) (stream p at input)
 
 unfoldable pub dataOut : SparkleEngine → List ℕ → List ℕ
@@ -277,23 +277,23 @@ unfoldable pub sealTag : SparkleEngine → List ℕ
 sealTag e =
     let p = paramsOf (e .variant) in
     let s = stateIn p (e .current .words) in
-    tagOf p (currentKey p (e .pair)) (lastState p s (heldBytes p (e .current)) (heldBytes p (e .current)))
+    tagOf p (currentKey p (e .pair)) (lastState p s (buffered p (e .current)) (buffered p (e .current)))
 
 unfoldable pub sealLast : SparkleEngine → List ℕ
 sealLast e =
     let p = paramsOf (e .variant) in
-    crypt p (stateIn p (e .current .words)) (heldBytes p (e .current))
+    crypt p (stateIn p (e .current .words)) (buffered p (e .current))
 
 -- Of an opening: the held ciphertext and the received tag, what the ciphertext becomes, and the tag of that.
 unfoldable pub openBlock : SparkleEngine → List ℕ
 openBlock e =
     let p = paramsOf (e .variant) in
-    take (length (heldBytes p (e .current)) - p .key) (heldBytes p (e .current))
+    take (length (buffered p (e .current)) - p .key) (buffered p (e .current))
 
 unfoldable pub receivedTag : SparkleEngine → List ℕ
 receivedTag e =
     let p = paramsOf (e .variant) in
-    drop (length (heldBytes p (e .current)) - p .key) (heldBytes p (e .current))
+    drop (length (buffered p (e .current)) - p .key) (buffered p (e .current))
 
 unfoldable pub openLast : SparkleEngine → List ℕ
 openLast e =
@@ -309,8 +309,8 @@ openTag e =
 unfoldable pub finalPoint : Direction → Point
 finalPoint d = record { phase = Final d; words = zeros 16; buffer = zeros 64; held = 0 }
 
-unfoldable pub ended : SparkleEngine → Direction → Mac → ℕ → SparkleEngine
-ended e d mac n =
+unfoldable pub finalEngine : SparkleEngine → Direction → Mac → ℕ → SparkleEngine
+finalEngine e d mac n =
     record {
       variant = e .variant;
       current = finalPoint d;
@@ -320,56 +320,56 @@ ended e d mac n =
       steps = addSteps n (e .steps);
     }
 
-unfoldable pub endedBy : SparkleEngine → AeadResult → Direction → Mac → ℕ → Done
-endedBy e answer d mac n = record { answer = answer; engine = ended e d mac n }
+unfoldable pub finish : SparkleEngine → AeadResult → Direction → Mac → ℕ → Done
+finish e answer d mac n = record { answer = answer; engine = finalEngine e d mac n }
 
 unfoldable pub readable : List ℕ → Mac
 readable tag = record { readable = true; bytes = inArray 32 tag }
 
 -- The tag and the steps of the end of a sealing, and of an opening by whether the received tag is the specification's.
-abbrev pub sealedEnd : SparkleEngine → End
-sealedEnd e =
+abbrev pub sealEnd : SparkleEngine → End
+sealEnd e =
     let p = paramsOf (e .variant) in
-    record { mac = readable (sealTag e); steps = lastSteps p (heldBytes p (e .current)) }
+    record { mac = readable (sealTag e); steps = lastSteps p (buffered p (e .current)) }
 
-abbrev pub openedEnd : Bool → SparkleEngine → End
-openedEnd true e = record { mac = readable (openTag e); steps = lastSteps (paramsOf (e .variant)) (openBlock e) }
-openedEnd false e = record { mac = noMac; steps = lastSteps (paramsOf (e .variant)) (openBlock e) }
+abbrev pub openEnd : Bool → SparkleEngine → End
+openEnd true e = record { mac = readable (openTag e); steps = lastSteps (paramsOf (e .variant)) (openBlock e) }
+openEnd false e = record { mac = noMac; steps = lastSteps (paramsOf (e .variant)) (openBlock e) }
 
 -- An end without a tag that can be read is refused.
 abbrev pub answered : AeadResult → Mac → AeadResult
 answered answer mac = cond (mac .readable) answer (Err AuthenticationFailed)
 
 -- The end of a sealing, and of an opening.
-unfoldable pub sealEnd : SparkleEngine → ℕ → Done
-sealEnd e n =
-    let r = sealedEnd e in record { answer = Ok n; engine = ended e Encrypt (r .mac) (r .steps) }
+unfoldable pub sealFinal : SparkleEngine → ℕ → Done
+sealFinal e n =
+    let r = sealEnd e in record { answer = Ok n; engine = finalEngine e Encrypt (r .mac) (r .steps) }
 
-abbrev pub openEndBy : Bool → SparkleEngine → ℕ → Done
-openEndBy true e n =
-    let r = openedEnd true e in record { answer = Ok n; engine = ended e Decrypt (r .mac) (r .steps) }
-openEndBy false e n =
-    let r = openedEnd false e in
-    record { answer = Err AuthenticationFailed; engine = ended e Decrypt (r .mac) (r .steps) }
+abbrev pub openFinalBy : Bool → SparkleEngine → ℕ → Done
+openFinalBy true e n =
+    let r = openEnd true e in record { answer = Ok n; engine = finalEngine e Decrypt (r .mac) (r .steps) }
+openFinalBy false e n =
+    let r = openEnd false e in
+    record { answer = Err AuthenticationFailed; engine = finalEngine e Decrypt (r .mac) (r .steps) }
 
-unfoldable pub openEnd : SparkleEngine → ℕ → Done
-openEnd e n = openEndBy (same (receivedTag e) (openTag e)) e n
+unfoldable pub openFinal : SparkleEngine → ℕ → Done
+openFinal e n = openFinalBy (same (receivedTag e) (openTag e)) e n
 
 -- What a failed tag leaves of the bytes that the end would have written: zeros.
-abbrev pub openEndOutBy : Bool → SparkleEngine → List ℕ
-openEndOutBy true e = openLast e
-openEndOutBy false e = zeros (length (openBlock e))
+abbrev pub openEndOut : Bool → SparkleEngine → List ℕ
+openEndOut true e = openLast e
+openEndOut false e = zeros (length (openBlock e))
 
 abbrev pub finalBy : AeadResult → SparkleEngine → Done
 finalBy (Err x) e = record { answer = Err x; engine = e }
-finalBy (Ok n) e = cond (opening (e .current .phase)) (openEnd (beginData e) n) (sealEnd (beginData e) n)
+finalBy (Ok n) e = cond (opening (e .current .phase)) (openFinal (beginData e) n) (sealFinal (beginData e) n)
 
 abbrev pub finalOutBy : AeadResult → SparkleEngine → List ℕ → List ℕ
 finalOutBy (Err x) e out = out
 finalOutBy (Ok n) e out =
     written
     (cond (opening (e .current .phase))
-    (openEndOutBy (same (receivedTag (beginData e)) (openTag (beginData e))) (beginData e))
+    (openEndOut (same (receivedTag (beginData e)) (openTag (beginData e))) (beginData e))
     (sealLast (beginData e) ++ sealTag (beginData e)))
     out
 

@@ -9,7 +9,7 @@ use Rattle.schwaemm.specs.Schwaemm.{Params}
 use Rattle.tc_aead_cipher.specs.declared.variant.SparkleVariant.{SparkleVariant}
 use Rattle.tc_aead_cipher.specs.declared.aead_error.AeadResult.{AeadResult}
 use Rattle.tc_aead_cipher.specs.declared.phase.Phase.the-variants.{Uninitialized}
-use Rattle.tc_sparkle_aead.specs.declared.engine.Point.{Point}
+use Rattle.tc_sparkle_aead.specs.declared.message.Point.{Point}
 use Rattle.tc_sparkle_aead.specs.declared.engine.Pair.{Pair}
 use Rattle.tc_sparkle_aead.specs.declared.engine.Mac.{Mac}
 use Rattle.tc_sparkle_aead.specs.declared.engine.Steps.{Steps}

@@ -15,27 +15,27 @@ use Rattle.tc_sparkle_aead.specs.Calls.{stepsNow}
 use Rattle.tc_sparkle_aead.specs.Calls.{reset as resetEngine}
 
 -- What a call leaves: the engine, the outcome, and the output buffer that was lent, if one was.
-pub record Left : Type 0 where
+pub record StepResult : Type 0 where
   pub engine : SparkleEngine
   pub outcome : Outcome
   pub buffer : List ℕ
 
-unfoldable pub step : SparkleEngine → Call → Left
-step e (Call.start d key nonce size h) =
+unfoldable pub step : SparkleEngine → Call → StepResult
+step e (Call.Init d key nonce size h) =
     let r = init e d key nonce size h in record { engine = r .engine; outcome = startOutcome (r .answer); buffer = [] }
-step e (Call.header input) =
+step e (Call.Aad input) =
     let r = processAadBytes e input in record { engine = r .engine; outcome = outcome (r .answer); buffer = [] }
-step e (Call.message input out) =
+step e (Call.Data input out) =
     let r = processBytes e input out in
     record { engine = r .engine; outcome = outcome (r .answer); buffer = processBytesOut e input out }
-step e (Call.end out) =
+step e (Call.Final out) =
     let r = doFinal e out in
     record { engine = r .engine; outcome = outcome (r .answer); buffer = doFinalOut e out }
-step e Call.reset = record { engine = resetEngine e; outcome = ok 0; buffer = [] }
-step e Call.tag =
+step e Call.Reset = record { engine = resetEngine e; outcome = ok 0; buffer = [] }
+step e Call.Mac =
     record { engine = e; outcome = ok (cond (macOf e .readable) (paramsOf (e .variant) .key) 0); buffer = [] }
-step e (Call.update n) = record { engine = e; outcome = outcome (updateOutputLen e n); buffer = [] }
-step e (Call.output n) = record { engine = e; outcome = outcome (outputLen e n); buffer = [] }
+step e (Call.Update n) = record { engine = e; outcome = outcome (updateOutputLen e n); buffer = [] }
+step e (Call.Output n) = record { engine = e; outcome = outcome (outputLen e n); buffer = [] }
 
 -- A line of a sheet: the outcome, the steps, and whether a tag can be read.
 pub record Line : Type 0 where
@@ -43,7 +43,7 @@ pub record Line : Type 0 where
   pub steps : ℕ
   pub readable : Bool
 
-unfoldable pub line : Left → Line
+unfoldable pub line : StepResult → Line
 line l = record { outcome = l .outcome; steps = stepsNow (l .engine); readable = macOf (l .engine) .readable }
 
 -- The lines of a list of calls, each call on the engine as the last one left it.

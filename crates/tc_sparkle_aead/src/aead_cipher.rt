@@ -4,15 +4,16 @@
 ghost use mathlib.Core.Path.{_≡_};
 ghost use Rattle.tc_sparkle_aead.specs.Engine.{updateOutputLen, outputLen};
 ghost use Rattle.tc_sparkle_aead.specs.Calls.{init, processAadBytes, processBytes, processBytesOut, doFinal, doFinalOut, reset, macOf, stepsNow};
-use tc_aead_cipher::aead_error::AeadResult;
-use tc_aead_cipher::aead_init_error::AeadInitResult;
-use tc_aead_cipher::checks;
 use super::engine;
 use super::engine::Done;
 use super::engine::Mac;
 use super::engine::SparkleEngine;
 use super::engine::Started;
 use super::engine::Steps;
+use super::message;
+use tc_aead_cipher::aead_error::AeadResult;
+use tc_aead_cipher::aead_init_error::AeadInitResult;
+use tc_aead_cipher::checks;
 use tc_aead_cipher::phase::Direction;
 
 // Ends the old message and starts a new one.
@@ -59,10 +60,10 @@ pub fn process_aad_bytes(e: SparkleEngine, input: &[u8]) -> Done
     let AeadResult::Ok(_) = answer else {
         return Done { answer, engine: e };
     };
-    let next = engine::absorb(variant, checks::direction(phase), at, input);
+    let next = message::absorb(variant, checks::direction(phase), at, input);
     Done {
         answer,
-        engine: engine::at_point(e, next, engine::header_steps(variant, at, input)),
+        engine: engine::at_point(e, next, message::header_steps(variant, at, input)),
     }
 }
 
@@ -78,10 +79,10 @@ pub fn process_bytes(mut e: SparkleEngine, input: &[u8], output: &mut [u8]) -> D
     let AeadResult::Ok(_) = answer else {
         return Done { answer, engine: e };
     };
-    let begun = engine::begin_data(variant, at);
-    let done = engine::data_in(variant, begun, input, output);
+    let begun = message::begin_data(variant, at);
+    let done = message::data_in(variant, begun, input, output);
     let s = e.steps;
-    let steps = engine::add_steps(s, engine::begin_steps(variant, phase));
+    let steps = engine::add_steps(s, message::begin_steps(variant, phase));
     e.steps = steps;
     Done {
         answer,
@@ -101,15 +102,15 @@ pub fn do_final(e: SparkleEngine, output: &mut [u8]) -> Done
     let AeadResult::Ok(_) = answer else {
         return Done { answer, engine: e };
     };
-    let begun = engine::begin_data(variant, at);
+    let begun = message::begin_data(variant, at);
     let pair = e.pair;
-    let first = engine::begin_steps(variant, phase);
+    let first = message::begin_steps(variant, phase);
     if checks::opening(phase) {
-        let end = engine::open_end(variant, begun, pair, output);
-        return engine::ended(e, answer, Direction::Decrypt, first, end);
+        let end = message::open_end(variant, begun, pair, output);
+        return engine::finish(e, answer, Direction::Decrypt, first, end);
     }
-    let end = engine::seal_end(variant, begun, pair, output);
-    engine::ended(e, answer, Direction::Encrypt, first, end)
+    let end = message::seal_end(variant, begun, pair, output);
+    engine::finish(e, answer, Direction::Encrypt, first, end)
 }
 
 // How many bytes the next data call of n bytes writes.
@@ -140,7 +141,7 @@ pub fn reset(mut e: SparkleEngine) -> SparkleEngine
     let phase = at.phase;
     let initial = e.initial;
     let steps = e.steps;
-    let current = engine::reset_point(phase, initial);
+    let current = message::reset_point(phase, initial);
     let mac = engine::no_mac();
     let back = Steps {
         current: steps.initial,

@@ -21,7 +21,7 @@ told e r c c′ m m′ x out p q (a, b) =
     (a ∙ ap (λ (k : Call). step e k .engine) (sym p), b ∙ ap₂ (λ (k : Call) (n : ℕ). answerOf e k ++ drop n out) (sym p) (sym q))
 
 module _ (h : Head) (runs : List ℕ) where
-  call-1 : h .kind ≡ 1 → callOf h runs ≡ Call.start Encrypt (firstRun h runs) (secondRun h runs) (h .number) (thirdRun h runs)
+  call-1 : h .kind ≡ 1 → callOf h runs ≡ Call.Init Encrypt (firstRun h runs) (secondRun h runs) (h .number) (thirdRun h runs)
   unfolding callOf
   call-1 k = rw k refl
 
@@ -29,7 +29,7 @@ module _ (h : Head) (runs : List ℕ) where
   unfolding shownLength
   shown-1 k = rw k refl
 
-  call-2 : h .kind ≡ 2 → callOf h runs ≡ Call.start Decrypt (firstRun h runs) (secondRun h runs) (h .number) (thirdRun h runs)
+  call-2 : h .kind ≡ 2 → callOf h runs ≡ Call.Init Decrypt (firstRun h runs) (secondRun h runs) (h .number) (thirdRun h runs)
   unfolding callOf
   call-2 k = rw k refl
 
@@ -37,7 +37,7 @@ module _ (h : Head) (runs : List ℕ) where
   unfolding shownLength
   shown-2 k = rw k refl
 
-  call-3 : h .kind ≡ 3 → callOf h runs ≡ Call.header (firstRun h runs)
+  call-3 : h .kind ≡ 3 → callOf h runs ≡ Call.Aad (firstRun h runs)
   unfolding callOf
   call-3 k = rw k refl
 
@@ -45,7 +45,7 @@ module _ (h : Head) (runs : List ℕ) where
   unfolding shownLength
   shown-3 k = rw k refl
 
-  call-4 : h .kind ≡ 4 → callOf h runs ≡ Call.message (firstRun h runs) (thirdRun h runs)
+  call-4 : h .kind ≡ 4 → callOf h runs ≡ Call.Data (firstRun h runs) (thirdRun h runs)
   unfolding callOf
   call-4 k = rw k refl
 
@@ -53,7 +53,7 @@ module _ (h : Head) (runs : List ℕ) where
   unfolding shownLength
   shown-4 k = rw k refl
 
-  call-5 : h .kind ≡ 5 → callOf h runs ≡ Call.end (thirdRun h runs)
+  call-5 : h .kind ≡ 5 → callOf h runs ≡ Call.Final (thirdRun h runs)
   unfolding callOf
   call-5 k = rw k refl
 
@@ -61,7 +61,7 @@ module _ (h : Head) (runs : List ℕ) where
   unfolding shownLength
   shown-5 k = rw k refl
 
-  call-6 : h .kind ≡ 6 → callOf h runs ≡ Call.reset
+  call-6 : h .kind ≡ 6 → callOf h runs ≡ Call.Reset
   unfolding callOf
   call-6 k = rw k refl
 
@@ -69,7 +69,7 @@ module _ (h : Head) (runs : List ℕ) where
   unfolding shownLength
   shown-6 k = rw k refl
 
-  call-7 : h .kind ≡ 7 → callOf h runs ≡ Call.tag
+  call-7 : h .kind ≡ 7 → callOf h runs ≡ Call.Mac
   unfolding callOf
   call-7 k = rw k refl
 
@@ -77,7 +77,7 @@ module _ (h : Head) (runs : List ℕ) where
   unfolding shownLength
   shown-7 k = rw k refl
 
-  call-8 : h .kind ≡ 8 → callOf h runs ≡ Call.update (h .number)
+  call-8 : h .kind ≡ 8 → callOf h runs ≡ Call.Update (h .number)
   unfolding callOf
   call-8 k = rw k refl
 
@@ -86,7 +86,7 @@ module _ (h : Head) (runs : List ℕ) where
   shown-8 k = rw k refl
 
   module _ (a : h .kind ≡ 1 → ⊥) (b : h .kind ≡ 2 → ⊥) (c : h .kind ≡ 3 → ⊥) (d : h .kind ≡ 4 → ⊥) (e : h .kind ≡ 5 → ⊥) (f : h .kind ≡ 6 → ⊥) (g : h .kind ≡ 7 → ⊥) (i : h .kind ≡ 8 → ⊥) where
-    call-9 : callOf h runs ≡ Call.output (h .number)
+    call-9 : callOf h runs ≡ Call.Output (h .number)
     unfolding callOf
     call-9 =
         let k = h .kind in

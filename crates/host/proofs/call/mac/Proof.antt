@@ -36,10 +36,10 @@ returns : tie.Need-returns
 unfolding step shown shownCount
 returns c =
     let a = c .before .before .before .before .before .before .before .before .before .before .before .before .before .args in
-    let reply : c .before .before .before .count .result ≡ replyOf (step (a .e) Call.tag .outcome) =
+    let reply : c .before .before .before .count .result ≡ replyOf (step (a .e) Call.Mac .outcome) =
     c .before .before .before .count .ensures ∙ ap (λ (n : ℕ). replyOf (Outcome.ok n)) (c .before .before .before .before .tag-len .ensures) in (
       refl,
-      answer-whole (a .e) Call.tag (c .before .before .before .count .result) (a .e) _ _ (drop 66 (a .out .now)) reply refl (c .before .before .put-head .ensures)
+      answer-whole (a .e) Call.Mac (c .before .before .before .count .result) (a .e) _ _ (drop 66 (a .out .now)) reply refl (c .before .before .put-head .ensures)
           (c .before .before .before .before .before .before .before .before .put-tag .ensures ∙ ap (λ (m : Mac). m .bytes ++ drop 66 (a .out .now)) (c .before .before .before .before .before .before .before .before .before .before .before .mac .ensures)),
     )
 

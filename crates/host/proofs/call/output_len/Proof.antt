@@ -28,7 +28,7 @@ returns : tie.Need-returns
 unfolding step shown shownCount
 returns c =
     let a = c .before .before .before .before .before .before .before .args in
-    let call = Call.output (a .n) in
+    let call = Call.Output (a .n) in
     let reply : c .before .before .before .reply-of .result ≡ replyOf (step (a .e) call .outcome) =
     c .before .before .before .reply-of .ensures ∙ ap (λ (r : AeadResult). replyOf (outcome r)) (c .before .before .before .before .output-len .ensures) in (
       refl,

@@ -40,7 +40,7 @@ returns c =
     let a = c .before .before .before .before .before .before .before .before .before .before .args in
     let h = a .h in
     let runs = a .runs .now in
-    let call = Call.header (firstRun h runs) in
+    let call = Call.Aad (firstRun h runs) in
     let said : c .before .before .before .before .before .before .process-aad-bytes .result ≡ processAadBytes (a .e) (firstRun h runs) =
     c .before .before .before .before .before .before .process-aad-bytes .ensures ∙ ap (processAadBytes (a .e)) (first-part h runs) in
     let engine : c .before .before .before .before .before .before .process-aad-bytes .result .engine ≡ step (a .e) call .engine = ap (λ (r : Done). r .engine) said in

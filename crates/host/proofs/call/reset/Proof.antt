@@ -27,7 +27,7 @@ returns c =
     let a = c .before .before .before .before .before .before .before .args in
     let engine = c .before .before .before .before .before .reset .ensures in (
       engine,
-      answer-whole (a .e) Call.reset (c .before .before .before .count .result) (c .before .before .before .before .before .reset .result) _ (drop 34 (a .out .now)) (drop 34 (a .out .now)) (c .before .before .before .count .ensures) engine (c .before .before .put-head .ensures) refl,
+      answer-whole (a .e) Call.Reset (c .before .before .before .count .result) (c .before .before .before .before .before .reset .result) _ (drop 34 (a .out .now)) (drop 34 (a .out .now)) (c .before .before .before .count .ensures) engine (c .before .before .put-head .ensures) refl,
     )
 
 pub reset-spec : {M : Type 1} → statement M

@@ -28,7 +28,7 @@ returns : tie.Need-returns
 unfolding step shown shownCount
 returns c =
     let a = c .before .before .before .before .before .before .before .args in
-    let call = Call.update (a .n) in
+    let call = Call.Update (a .n) in
     let reply : c .before .before .before .reply-of .result ≡ replyOf (step (a .e) call .outcome) =
     c .before .before .before .reply-of .ensures ∙ ap (λ (r : AeadResult). replyOf (outcome r)) (c .before .before .before .before .update-output-len .ensures) in (
       refl,

@@ -2,7 +2,7 @@
 use mathlib.Core.Path.{sym, ap, _∙_}
 use native.Mathlib.Omega.{arith}
 use Rattle.tc_aead_cipher.specs.declared.aead_error.AeadResult.the-variants.{Ok, Err}
-use Rattle.packet.specs.Packet.{Packed}
+use Rattle.packet.specs.Packet.{PacketResult}
 use Rattle.packet.proofs.PacketLaws.{data-bound, data-packet}
 use borrow.Author.Needs.{needs}
 use Rattle.packet.proofs.packet.data.Statement.{statement}
@@ -37,8 +37,8 @@ returns c =
     let done = c .before .before .before .before .before .before .before .before .before .before .process-bytes in
     let n = c .before .before .before .before .before .r .given .0 .0 in
     let whole = sym (data-packet (a .e) (a .input .now) (a .out .now) (done .result) _ (done .ensures .0) (done .ensures .1) (Ok n) (c .before .before .before .before .before .r .given .1)) in (
-      c .before .before .end .ensures .0 ∙ ap (λ (p : Packed). p .reply) whole,
-      c .before .before .end .ensures .1 ∙ ap (λ (p : Packed). p .out) whole,
+      c .before .before .end .ensures .0 ∙ ap (λ (p : PacketResult). p .reply) whole,
+      c .before .before .end .ensures .1 ∙ ap (λ (p : PacketResult). p .out) whole,
     )
 
 same-length-2 : tie.Need-same-length-2
@@ -50,8 +50,8 @@ returns-2 c =
     let done = c .before .before .before .before .before .before .before .process-bytes in
     let x = c .before .before .r2 .given .0 .0 in
     let whole = sym (data-packet (a .e) (a .input .now) (a .out .now) (done .result) _ (done .ensures .0) (done .ensures .1) (Err x) (c .before .before .r2 .given .1)) in (
-      c .reply-of .ensures ∙ ap (λ (p : Packed). p .reply) whole,
-      ap (λ (p : Packed). p .out) whole,
+      c .reply-of .ensures ∙ ap (λ (p : PacketResult). p .reply) whole,
+      ap (λ (p : PacketResult). p .out) whole,
     )
 
 pub data-spec : {M : Type 1} → statement M

@@ -2,7 +2,7 @@
 use mathlib.Core.Path.{sym, ap, _∙_}
 use borrow.Author.Tests.{not-true, not-false}
 use Rattle.tc_aead_cipher.specs.declared.aead_init_error.AeadInitResult.the-variants.{Ok as Started, Err as Refused}
-use Rattle.packet.specs.Packet.{Packed}
+use Rattle.packet.specs.Packet.{PacketResult}
 use Rattle.packet.proofs.PacketLaws.{start-packet, no-variant}
 use borrow.Author.Needs.{needs}
 use Rattle.packet.proofs.packet.packet.Statement.{statement}
@@ -15,7 +15,7 @@ returns : tie.Need-returns
 returns c =
     let a = c .before .before .before .before .before .before .before .args in
     let whole = sym (no-variant (a .v) (a .d) (a .key .now) (a .nonce .now) (a .header .now) (a .input .now) (a .out .now) (sym (c .before .is-variant .ensures) ∙ not-true _ (c .if1 .taken))) in
-    (ap (λ (p : Packed). p .reply) whole, ap (λ (p : Packed). p .out) whole)
+    (ap (λ (p : PacketResult). p .reply) whole, ap (λ (p : PacketResult). p .out) whole)
 
 variant-requires : tie.Need-variant-requires
 variant-requires c κs = search needs
@@ -48,14 +48,14 @@ returns-2 : tie.Need-returns-2
 returns-2 c =
     let a = c .before .before .before .before .before .before .before .before .before .before .before .before .before .before .before .before .before .before .args in
     let whole = sym (start-packet (a .v) (a .d) (a .key .now) (a .nonce .now) (a .header .now) (a .input .now) (a .out .now) (c .before .before .before .before .before .before .before .init .result) (c .before .before .before .before .before .before .before .before .tag-bytes .result) (c .before .before .before .before .before .before .before .before .before .before .variant .result) (c .before .before .before .before .before .before .before .before .before .new .result) (sym (c .before .before .before .before .before .before .before .before .before .before .before .before .is-variant .ensures) ∙ not-false _ (c .before .before .before .before .before .before .before .before .before .before .before .if1 .left)) (c .before .before .before .before .before .before .before .before .before .before .variant .ensures) (c .before .before .before .before .before .before .before .before .before .new .ensures) (c .before .before .before .before .before .before .before .before .tag-bytes .ensures) (c .before .before .before .before .before .before .before .init .ensures) Started (c .before .before .before .before .enum-told .given .1)) in
-    (c .before .before .«data» .ensures .0 ∙ ap (λ (p : Packed). p .reply) whole, c .before .before .«data» .ensures .1 ∙ ap (λ (p : Packed). p .out) whole)
+    (c .before .before .«data» .ensures .0 ∙ ap (λ (p : PacketResult). p .reply) whole, c .before .before .«data» .ensures .1 ∙ ap (λ (p : PacketResult). p .out) whole)
 
 returns-3 : tie.Need-returns-3
 returns-3 c =
     let a = c .before .before .before .before .before .before .before .before .before .before .before .before .before .before .before .before .args in
     let x = c .before .before .r .given .0 .0 in
     let whole = sym (start-packet (a .v) (a .d) (a .key .now) (a .nonce .now) (a .header .now) (a .input .now) (a .out .now) (c .before .before .before .before .before .init .result) (c .before .before .before .before .before .before .tag-bytes .result) (c .before .before .before .before .before .before .before .before .variant .result) (c .before .before .before .before .before .before .before .new .result) (sym (c .before .before .before .before .before .before .before .before .before .before .is-variant .ensures) ∙ not-false _ (c .before .before .before .before .before .before .before .before .before .if1 .left)) (c .before .before .before .before .before .before .before .before .variant .ensures) (c .before .before .before .before .before .before .before .new .ensures) (c .before .before .before .before .before .before .tag-bytes .ensures) (c .before .before .before .before .before .init .ensures) (Refused x) (c .before .before .r .given .1)) in
-    (c .start-reply-of .ensures ∙ ap (λ (p : Packed). p .reply) whole, ap (λ (p : Packed). p .out) whole)
+    (c .start-reply-of .ensures ∙ ap (λ (p : PacketResult). p .reply) whole, ap (λ (p : PacketResult). p .out) whole)
 
 pub packet-spec : {M : Type 1} → statement M
 packet-spec =

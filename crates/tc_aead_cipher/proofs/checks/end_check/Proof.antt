@@ -24,7 +24,7 @@ returns-3 c =
     endCheck-short _ _ _ _ _ (told .before .before .phase-check .ensures) _ (told .enum-told .given .1) _ _
     (sized .before .total-len .ensures) (sized .with-room .ensures) _ (fits .enum-told3 .given .1)
     (sym (branch .before .opening .ensures) ∙ branch .if1 .taken) _ _ (c .before .before .tag-bytes .ensures)
-    (c .before .held-in .ensures) (c .if2 .taken)
+    (c .before .held-data .ensures) (c .if2 .taken)
 
 returns-4 : tie.Need-returns-4
 returns-4 c =
@@ -35,7 +35,7 @@ returns-4 c =
     endCheck-whole _ _ _ _ _ (told .before .before .phase-check .ensures) _ (told .enum-told .given .1) _ _
     (sized .before .total-len .ensures) (sized .with-room .ensures) _ (fits .enum-told3 .given .1)
     (sym (branch .before .opening .ensures) ∙ branch .if1 .taken) _ _ (c .before .before .tag-bytes .ensures)
-    (c .before .held-in .ensures) (c .if2 .left)
+    (c .before .held-data .ensures) (c .if2 .left)
 
 returns-5 : tie.Need-returns-5
 returns-5 c =

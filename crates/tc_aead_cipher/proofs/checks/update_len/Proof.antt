@@ -18,12 +18,12 @@ mul-written c =
     let h = count .before .before .before in
     let s = h .before .args in
     rw (c .nonce-bytes .ensures, count .block-count .ensures)
-    (omega (arith, ready-bound (paramsOf (s .variant) .rate) (count .before .keep .result) (h .held-in .result + s .n)))
+    (omega (arith, ready-bound (paramsOf (s .variant) .rate) (count .before .keep .result) (h .held-data .result + s .n)))
 
 returns-2 : tie.Need-returns-2
 returns-2 c =
     let count = c .before in
-    rw (c .nonce-bytes .ensures, count .block-count .ensures, count .before .keep .ensures, count .before .before .before .held-in .ensures)
+    rw (c .nonce-bytes .ensures, count .block-count .ensures, count .before .keep .ensures, count .before .before .before .held-data .ensures)
     (sym (updateLen-fits _ _ _ _ (omega arith)))
 
 pub update-len-spec : {M : Type 1} → statement M

@@ -1,23 +1,23 @@
 -- `do_final` goes by its check, and where that passes by the direction; a check that passes gives the callees their room.
 use mathlib.Core.Path.{sym, _∙_}
 use borrow.Author.Needs.{needs}
-use Rattle.tc_sparkle_aead.proofs.FinalLaws.{Taken, seal-fits, final-sealed, final-sealed-out, open-fits, final-opened, final-opened-out, final-refused, final-refused-out}
+use Rattle.tc_sparkle_aead.proofs.FinalLaws.{Accepted, seal-fits, final-sealed, final-sealed-out, open-fits, final-opened, final-opened-out, final-refused, final-refused-out}
 use Rattle.tc_sparkle_aead.proofs.aead_cipher.do_final.Statement.{statement}
 use Rattle.tc_sparkle_aead.proofs.aead_cipher.do_final.Tie as tie
 
 -- what is known where the direction is told
 taken : (c : tie.After-opening)
-    → Taken
+    → Accepted
     (c .before .before .before .before .before .before .before .before .before .args .e)
     (c .before .before .before .begin-data .result)
     (c .before .before .before .before .before .before .before .before .before .args .output .now)
     (c .before .before .before .before .enum-told .given .0 .0) (c .opening .result)
 taken c =
-    let begun = c .before .before .before in
-    let told = begun .before in
+    let beginPoint = c .before .before .before in
+    let told = beginPoint .before in
     record {
       passed = sym (told .before .before .end-check .ensures) ∙ told .enum-told .given .1;
-      begins = begun .begin-data .ensures;
+      begins = beginPoint .begin-data .ensures;
       direction = c .opening .ensures;
     }
 
@@ -40,7 +40,7 @@ returns-2 c =
     let told = first .before .before .before in
     let t = taken (branch .before) in (
       final-opened t (branch .if1 .taken) _ (told .enum-told .given .1) _ (first .begin-steps .ensures) _ _
-          (end .open-end .ensures .0) _ (c .ended .ensures),
+          (end .open-end .ensures .0) _ (c .finish .ensures),
       final-opened-out t (branch .if1 .taken) _ (end .open-end .ensures .1),
     )
 
@@ -55,7 +55,7 @@ returns-3 c =
     let told = first .before .before .before in
     let t = taken (branch .before) in (
       final-sealed t (branch .if1 .left) _ (told .enum-told .given .1) _ (first .begin-steps .ensures) _ _
-          (end .seal-end .ensures .0) _ (c .ended2 .ensures),
+          (end .seal-end .ensures .0) _ (c .finish2 .ensures),
       final-sealed-out t (branch .if1 .left) _ (end .seal-end .ensures .1),
     )
 

@@ -44,8 +44,8 @@ store-requires c κs =
     let fits = run-fits _ _ _ _ _ (at .loop .inv .run) (test .loop-test .taken) in
     omega (arith, fits, s .pre, same-output at)
 
-taken-up-requires : tie.Need-taken-up-requires Inv-loop μ-loop
-taken-up-requires c κs = c .before .before .before .before .crypt-words .ensures
+plain-words-requires : tie.Need-plain-words-requires Inv-loop μ-loop
+plain-words-requires c κs = c .before .before .before .before .crypt-words .ensures
 
 add-pos : tie.Need-add-pos Inv-loop μ-loop
 add-pos c =
@@ -75,7 +75,7 @@ loop-again c =
     crypt-turn _ _ _ _ _ _ (sizes v) (small v) (s .good .1 .1 .0 .1 .0 .1)
     (length-stream _ _ _ _ (s .good .1 .1 .1 .0 .1 .0 .1) (s .pre .0) (s .pre .1)) (s .pre .2) (at .loop .inv)
     (test .loop-test .taken) _ _ _ _ _ _ _ (rate .nonce-bytes .ensures) (slim .slim-steps .ensures)
-    (load .load .ensures) (crypt .crypt-words .ensures) (store .store .ensures) (c .before .taken-up .ensures) (c .mix-words .ensures)
+    (load .load .ensures) (crypt .crypt-words .ensures) (store .store .ensures) (c .before .plain-words .ensures) (c .mix-words .ensures)
 
 same-length : tie.Need-same-length Inv-loop μ-loop
 same-length c = same-output (c .before)
@@ -97,7 +97,7 @@ crypt-blocks-spec =
     load-requires
     (λ c κs. tt)
     store-requires
-    taken-up-requires
+    plain-words-requires
     (λ c κs. tt)
     add-pos
     (λ c. omega arith)
