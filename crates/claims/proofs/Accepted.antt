@@ -26,7 +26,8 @@ use Rattle.tc_sparkle_aead.specs.declared.engine.Mac.{Mac}
 use Rattle.tc_sparkle_aead.specs.declared.engine.SparkleEngine.{SparkleEngine}
 use Rattle.tc_aead_cipher.specs.Variant.{paramsOf}
 use Rattle.tc_aead_cipher.specs.Checks.{opens, opening, keep, heldData, then, within64, updateLen, totalLen, phaseCheck, room, dataCheck, whole, endCheck}
-use Rattle.tc_sparkle_aead.specs.Calls.{stateIn, stream, blockCount, beginData, plainOf, dataOut, written, sealLast, sealTag, openBlock, openLast, plainBy, streamOut}
+use Rattle.tc_sparkle_aead.specs.Message.{stateIn, stream, blockCount, plainOf, written, plainBy, streamOut}
+use Rattle.tc_sparkle_aead.specs.Calls.{beginData, dataOut, sealLast, sealTag, openBlock, openLast}
 use Rattle.tc_aead_cipher.proofs.VariantLaws.{sizes, small}
 use Rattle.claims.specs.Reader.{Reader, readerHeld, dataPhase}
 use Rattle.claims.specs.Messages.{released, Writes}

@@ -20,8 +20,9 @@ use Rattle.tc_aead_cipher.specs.declared.aead_error.AeadResult.the-variants.{Ok
 use Rattle.tc_sparkle_aead.specs.declared.engine.SparkleEngine.{SparkleEngine}
 use Rattle.tc_aead_cipher.specs.Variant.{paramsOf}
 use Rattle.tc_aead_cipher.specs.Checks.{opening, keep, endCheck}
-use Rattle.tc_sparkle_aead.specs.Engine.{noMac, newEngine}
-use Rattle.tc_sparkle_aead.specs.Calls.{readable, macOf, stepsNow}
+use Rattle.tc_sparkle_aead.specs.Message.{noMac, readable}
+use Rattle.tc_sparkle_aead.specs.Engine.{newEngine}
+use Rattle.tc_sparkle_aead.specs.Calls.{macOf, stepsNow}
 use Rattle.tc_aead_cipher.specs.Call.{Call}
 use Rattle.claims.specs.Shape.{Alike}
 use Rattle.tc_sparkle_aead.specs.Sheet.{step, Line, sheet, runFrom, run}

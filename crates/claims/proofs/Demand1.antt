@@ -23,11 +23,12 @@ use Rattle.tc_sparkle_aead.specs.declared.engine.Pair.{Pair}
 use Rattle.tc_aead_cipher.specs.Variant.{paramsOf}
 use Rattle.tc_aead_cipher.specs.Checks.{opens, opening, heldData, phaseCheck, headerCheck, updateLen, totalLen, aadCheck}
 use Rattle.tc_aead_cipher.specs.Checks.{dataCheck, endCheck, startCheck}
-use Rattle.tc_sparkle_aead.specs.Engine.{zeros, repeats, updateOutputLen, outputLen}
+use Rattle.tc_sparkle_aead.specs.Message.{zeros, buffered, lastSteps, written, afterHeader, withoutHeader}
+use Rattle.tc_sparkle_aead.specs.Engine.{repeats, updateOutputLen, outputLen}
 use Rattle.tc_sparkle_aead.specs.Calls.{refused, initBy, aadBy, processAadBytes, dataBy, dataOutBy, dataAnswer, finalAnswer}
-use Rattle.tc_sparkle_aead.specs.Calls.{buffered, openBlock, openEndOut, finalEngine, addSteps, lastSteps, written, processBytes}
+use Rattle.tc_sparkle_aead.specs.Calls.{openBlock, openEndOut, finalEngine, addSteps, processBytes}
 use Rattle.tc_sparkle_aead.specs.Calls.{processBytesOut, beginData, receivedTag, openTag, openFinal, openFinalBy, sealFinal}
-use Rattle.tc_sparkle_aead.specs.Calls.{finalBy, finalOutBy, doFinal, doFinalOut, afterHeader, withoutHeader}
+use Rattle.tc_sparkle_aead.specs.Calls.{finalBy, finalOutBy, doFinal, doFinalOut}
 use Rattle.tc_aead_cipher.proofs.CheckLaws.{updateLen-over, updateLen-fits, totalLen-over, totalLen-opening}
 use Rattle.tc_aead_cipher.proofs.CheckLaws.{totalLen-sealing, totalLen-sealing-over, startCheck-key, startCheck-nonce}
 use Rattle.tc_aead_cipher.proofs.CheckLaws.{startCheck-size, startCheck-opening, startCheck-sealing}

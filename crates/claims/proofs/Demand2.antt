@@ -23,9 +23,10 @@ use Rattle.tc_sparkle_aead.specs.declared.engine.Mac.{Mac}
 use Rattle.tc_sparkle_aead.specs.declared.engine.SparkleEngine.{SparkleEngine}
 use Rattle.tc_aead_cipher.specs.Variant.{paramsOf}
 use Rattle.tc_aead_cipher.specs.Checks.{opening, keep, aadCheck, headerCheck, dataCheck, endCheck, startCheck}
-use Rattle.tc_sparkle_aead.specs.Engine.{noMac, noMessage, noSteps, repeats, resetSteps, newEngine}
+use Rattle.tc_sparkle_aead.specs.Message.{noMac, noMessage, readable, finalPoint}
+use Rattle.tc_sparkle_aead.specs.Engine.{noSteps, repeats, resetSteps, newEngine}
 use Rattle.tc_sparkle_aead.specs.Calls.{reset as resetEngine}
-use Rattle.tc_sparkle_aead.specs.Calls.{readable, macOf, stepsNow, finalPoint, refused, initBy, init, aadBy, processAadBytes, dataBy, processBytes, finalBy, doFinal}
+use Rattle.tc_sparkle_aead.specs.Calls.{macOf, stepsNow, refused, initBy, init, aadBy, processAadBytes, dataBy, processBytes, finalBy, doFinal}
 use Rattle.tc_aead_cipher.proofs.VariantLaws.{sizes, small, keep-bound}
 use Rattle.tc_aead_cipher.specs.Call.{Call}
 use Rattle.tc_sparkle_aead.specs.Sheet.{step, runFrom, run}

@@ -18,8 +18,8 @@ use Rattle.tc_sparkle_aead.specs.declared.engine.Mac.{Mac}
 use Rattle.tc_sparkle_aead.specs.declared.engine.SparkleEngine.{SparkleEngine}
 use Rattle.tc_aead_cipher.specs.Variant.{paramsOf}
 use Rattle.tc_aead_cipher.specs.Checks.{opening, keep, heldData, endCheck}
-use Rattle.tc_sparkle_aead.specs.Engine.{zeros, noMessage}
-use Rattle.tc_sparkle_aead.specs.Calls.{beginData, receivedTag, openTag, finalPoint}
+use Rattle.tc_sparkle_aead.specs.Message.{zeros, noMessage, finalPoint}
+use Rattle.tc_sparkle_aead.specs.Calls.{beginData, receivedTag, openTag}
 use Rattle.tc_aead_cipher.proofs.VariantLaws.{sizes, small}
 use Rattle.tc_aead_cipher.specs.Call.{Call}
 use Rattle.claims.specs.Shape.{Alike}

@@ -25,8 +25,9 @@ use Rattle.tc_sparkle_aead.specs.declared.engine.Mac.{Mac}
 use Rattle.tc_sparkle_aead.specs.declared.engine.SparkleEngine.{SparkleEngine}
 use Rattle.tc_aead_cipher.specs.Variant.{paramsOf}
 use Rattle.tc_aead_cipher.specs.Checks.{aadCheck, headerCheck, dataCheck, endCheck, startCheck, updateLen, totalLen}
-use Rattle.tc_sparkle_aead.specs.Engine.{noMessage, noMac, remember, currentKey, noSteps, initSteps, resetSteps, newEngine, updateOutputLen, outputLen}
-use Rattle.tc_sparkle_aead.specs.Calls.{stateIn, buffered, addSteps, atPoint, refused, absorbHeader, headerSteps, started, initBy, init, aadBy, processAadBytes, beginData, plainOf, dataIn, dataBy, processBytes, lastSteps, sealTag, openBlock, receivedTag, openLast, openTag, finalPoint, finalEngine, readable, sealFinal, openFinalBy, openFinal, finalBy, doFinal, dataAnswer, finalAnswer, afterHeader, plainBy, withoutHeader}
+use Rattle.tc_sparkle_aead.specs.Message.{noMessage, noMac, stateIn, buffered, absorbHeader, headerSteps, plainOf, lastSteps, finalPoint, readable, afterHeader, plainBy, withoutHeader}
+use Rattle.tc_sparkle_aead.specs.Engine.{remember, currentKey, noSteps, initSteps, resetSteps, newEngine, updateOutputLen, outputLen}
+use Rattle.tc_sparkle_aead.specs.Calls.{addSteps, atPoint, refused, started, initBy, init, aadBy, processAadBytes, beginData, dataIn, dataBy, processBytes, sealTag, openBlock, receivedTag, openLast, openTag, finalEngine, sealFinal, openFinalBy, openFinal, finalBy, doFinal, dataAnswer, finalAnswer}
 use Rattle.tc_sparkle_aead.specs.Calls.{reset as resetEngine}
 use Rattle.tc_aead_cipher.proofs.VariantLaws.{sizes, small}
 use Rattle.tc_aead_cipher.specs.Call.{Call}

@@ -33,8 +33,8 @@ use Rattle.tc_sparkle_aead.specs.declared.engine.Mac.{Mac}
 use Rattle.tc_sparkle_aead.specs.declared.engine.SparkleEngine.{SparkleEngine}
 use Rattle.tc_aead_cipher.specs.Variant.{paramsOf}
 use Rattle.tc_aead_cipher.specs.Checks.{opening, keep, heldData, dataCheck, endCheck, startCheck, updateLen, totalLen, phaseCheck, then, room, whole}
-use Rattle.tc_sparkle_aead.specs.Engine.{zeros, inArray, noMessage, noMac, noPair, repeats, remember, currentKey, noSteps, newEngine}
-use Rattle.tc_sparkle_aead.specs.Calls.{stateIn, putState, buffered, stream, blockCount, streamed, startPoint, absorbHeader, headerSteps, plainOf, finalPoint, readable}
+use Rattle.tc_sparkle_aead.specs.Message.{zeros, inArray, noMessage, noMac, stateIn, putState, buffered, stream, blockCount, streamed, startPoint, absorbHeader, headerSteps, plainOf, finalPoint, readable}
+use Rattle.tc_sparkle_aead.specs.Engine.{noPair, repeats, remember, currentKey, noSteps, newEngine}
 use Rattle.tc_aead_cipher.proofs.VariantLaws.{Small}
 use Rattle.claims.specs.Reader.{Reader, newReader, headerPhase}
 use Rattle.claims.proofs.Points.{take-inArray, ready-zero, held-nil, blockPoint, blockPoint-nil, buffered-aad}

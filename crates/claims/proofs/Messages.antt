@@ -24,8 +24,9 @@ use Rattle.tc_sparkle_aead.specs.declared.engine.Mac.{Mac}
 use Rattle.tc_sparkle_aead.specs.declared.engine.SparkleEngine.{SparkleEngine}
 use Rattle.tc_aead_cipher.specs.Variant.{paramsOf}
 use Rattle.tc_aead_cipher.specs.Checks.{opening, keep, heldData, then, phaseCheck, updateLen, totalLen, room, whole, aadCheck, headerCheck, dataCheck, endCheck}
-use Rattle.tc_sparkle_aead.specs.Engine.{noMac, updateOutputLen, outputLen}
-use Rattle.tc_sparkle_aead.specs.Calls.{aadBy, processAadBytes, readable, macOf, stepsNow}
+use Rattle.tc_sparkle_aead.specs.Message.{noMac, readable}
+use Rattle.tc_sparkle_aead.specs.Engine.{updateOutputLen, outputLen}
+use Rattle.tc_sparkle_aead.specs.Calls.{aadBy, processAadBytes, macOf, stepsNow}
 use Rattle.tc_aead_cipher.proofs.VariantLaws.{sizes, small, keep-bound}
 use Rattle.tc_sparkle_aead.proofs.FinalLaws.{heldData-bound}
 use Rattle.tc_aead_cipher.proofs.CheckLaws.{updateLen-fits, totalLen-opening, totalLen-sealing, startCheck-opening, startCheck-sealing}

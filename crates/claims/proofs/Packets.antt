@@ -13,7 +13,7 @@ use Rattle.schwaemm.specs.Schwaemm.{Params, mixLast, leading, messageBlock, bef
 use Rattle.schwaemm.proofs.Cut.{ready-before, rest-above, after-take, given-take, length-held, drop-take}
 use Rattle.schwaemm.proofs.RoundTrip.{length-lastBlock, leading-bound}
 use Rattle.schwaemm.proofs.Steps.{steps-some}
-use Rattle.tc_sparkle_aead.specs.Calls.{lastState, lastSteps}
+use Rattle.tc_sparkle_aead.specs.Message.{lastState, lastSteps}
 use Rattle.claims.proofs.Points.{ready-zero, after-nil}
 
 -- ---- The last block

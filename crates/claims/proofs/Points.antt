@@ -16,8 +16,7 @@ use Rattle.tc_aead_cipher.specs.declared.phase.Phase.{Phase}
 use Rattle.tc_aead_cipher.specs.declared.phase.Phase.the-variants.{Aad, Data}
 use Rattle.tc_sparkle_aead.specs.declared.message.Point.{Point}
 use Rattle.tc_aead_cipher.specs.Checks.{keep}
-use Rattle.tc_sparkle_aead.specs.Engine.{zeros, inArray}
-use Rattle.tc_sparkle_aead.specs.Calls.{stateIn, putState, buffered, stream, blockCount, streamed}
+use Rattle.tc_sparkle_aead.specs.Message.{zeros, inArray, stateIn, putState, buffered, stream, blockCount, streamed}
 use Rattle.tc_aead_cipher.proofs.VariantLaws.{Small, keep-bound}
 
 -- ---- Arrays

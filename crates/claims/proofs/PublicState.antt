@@ -26,9 +26,10 @@ use Rattle.tc_sparkle_aead.specs.declared.engine.Steps.{Steps}
 use Rattle.tc_sparkle_aead.specs.declared.engine.SparkleEngine.{SparkleEngine}
 use Rattle.tc_aead_cipher.specs.Variant.{paramsOf}
 use Rattle.tc_aead_cipher.specs.Checks.{opens, opening, keep, updateLen, totalLen, aadCheck, dataCheck, endCheck, startCheck}
-use Rattle.tc_sparkle_aead.specs.Engine.{zeros, inArray, noMessage, noMac, noSteps, initSteps, resetSteps, repeats, updateOutputLen, outputLen}
-use Rattle.tc_sparkle_aead.specs.Calls.{bufferedCount, buffered, stream, blockCount, streamed, addSteps, atPoint, startPoint, absorbHeader, headerSteps, aadIn, beginBy, beginData, dataIn, openBlock, lastSteps, finalPoint, finalEngine, afterHeader, withoutHeader}
-use Rattle.tc_sparkle_aead.specs.Calls.{refused, started, init, initBy, aadBy, processAadBytes, dataBy, dataAnswer, finalAnswer, processBytes, receivedTag, openTag, readable, sealFinal, openFinalBy, openFinal, finalBy, doFinal, resetPoint, macOf, stepsNow}
+use Rattle.tc_sparkle_aead.specs.Message.{zeros, inArray, noMessage, noMac, bufferedCount, buffered, stream, blockCount, streamed, startPoint, absorbHeader, headerSteps, lastSteps, finalPoint, afterHeader, withoutHeader, readable, resetPoint}
+use Rattle.tc_sparkle_aead.specs.Engine.{noSteps, initSteps, resetSteps, repeats, updateOutputLen, outputLen}
+use Rattle.tc_sparkle_aead.specs.Calls.{addSteps, atPoint, aadIn, beginBy, beginData, dataIn, openBlock, finalEngine}
+use Rattle.tc_sparkle_aead.specs.Calls.{refused, started, init, initBy, aadBy, processAadBytes, dataBy, dataAnswer, finalAnswer, processBytes, receivedTag, openTag, sealFinal, openFinalBy, openFinal, finalBy, doFinal, macOf, stepsNow}
 use Rattle.tc_sparkle_aead.specs.Calls.{reset as resetEngine}
 use Rattle.tc_aead_cipher.specs.Call.{Call}
 use Rattle.claims.specs.Shape.{Shape, shape}

@@ -17,9 +17,10 @@ use Rattle.tc_sparkle_aead.specs.declared.engine.Mac.{Mac}
 use Rattle.tc_sparkle_aead.specs.declared.engine.SparkleEngine.{SparkleEngine}
 use Rattle.tc_aead_cipher.specs.Variant.{paramsOf}
 use Rattle.tc_aead_cipher.specs.Checks.{opening, aadCheck, endCheck, startCheck}
-use Rattle.tc_sparkle_aead.specs.Engine.{noMac, newEngine, repeats}
+use Rattle.tc_sparkle_aead.specs.Message.{noMac, readable}
+use Rattle.tc_sparkle_aead.specs.Engine.{newEngine, repeats}
 use Rattle.tc_sparkle_aead.specs.Calls.{atPoint, refused, started, initBy, init, aadIn, aadBy, processAadBytes, beginBy, beginData}
-use Rattle.tc_sparkle_aead.specs.Calls.{dataIn, dataBy, dataAnswer, processBytes, readable, finalBy, finalAnswer, doFinal, macOf}
+use Rattle.tc_sparkle_aead.specs.Calls.{dataIn, dataBy, dataAnswer, processBytes, finalBy, finalAnswer, doFinal, macOf}
 use Rattle.tc_sparkle_aead.specs.Calls.{reset as resetEngine}
 use Rattle.tc_aead_cipher.specs.Call.{Call}
 use Rattle.tc_sparkle_aead.specs.Sheet.{step, Line, line, lines, sheet}

@@ -25,7 +25,8 @@ use Rattle.tc_aead_cipher.specs.Variant.{paramsOf}
 use Rattle.tc_aead_cipher.specs.Refusals.{refusal}
 use Rattle.tc_aead_cipher.specs.Checks.{opening, keep, aadCheck, headerCheck, dataCheck, endCheck, startCheck}
 use Rattle.tc_sparkle_aead.specs.Engine.{repeats}
-use Rattle.tc_sparkle_aead.specs.Calls.{plainOf, initBy, init, aadBy, processAadBytes}
+use Rattle.tc_sparkle_aead.specs.Message.{plainOf}
+use Rattle.tc_sparkle_aead.specs.Calls.{initBy, init, aadBy, processAadBytes}
 use Rattle.tc_aead_cipher.proofs.VariantLaws.{sizes, small}
 use Rattle.tc_aead_cipher.specs.Call.{Call}
 use Rattle.tc_sparkle_aead.specs.Sheet.{StepResult, step, runFrom, run}

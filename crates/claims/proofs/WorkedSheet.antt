@@ -8,8 +8,9 @@ use Rattle.schwaemm.specs.Blocks.{ready}
 use Rattle.tc_aead_cipher.specs.declared.variant.SparkleVariant.{SparkleVariant}
 use Rattle.tc_aead_cipher.specs.declared.variant.SparkleVariant.the-variants.{«Schwaemm128_128»}
 use Rattle.tc_sparkle_aead.specs.declared.engine.SparkleEngine.{SparkleEngine}
-use Rattle.tc_sparkle_aead.specs.Engine.{newEngine, noMessage, noMac, noSteps, initSteps, zeros}
-use Rattle.tc_sparkle_aead.specs.Calls.{addSteps, finalPoint}
+use Rattle.tc_sparkle_aead.specs.Message.{noMessage, noMac, zeros, finalPoint}
+use Rattle.tc_sparkle_aead.specs.Engine.{newEngine, noSteps, initSteps}
+use Rattle.tc_sparkle_aead.specs.Calls.{addSteps}
 use Rattle.tc_aead_cipher.specs.Checks.{updateLen, totalLen, aadCheck, dataCheck, endCheck, startCheck}
 use Rattle.tc_aead_cipher.specs.Call.{Call}
 use Rattle.claims.specs.Shape.{Shape, shape}

@@ -20,8 +20,8 @@ use Rattle.tc_sparkle_aead.specs.declared.engine.SparkleEngine.{SparkleEngine}
 use Rattle.tc_aead_cipher.specs.Variant.{paramsOf}
 use Rattle.tc_aead_cipher.specs.Refusals.{refusal}
 use Rattle.tc_aead_cipher.specs.Checks.{opens, opening, dataCheck, endCheck}
-use Rattle.tc_sparkle_aead.specs.Engine.{zeros, noMac}
-use Rattle.tc_sparkle_aead.specs.Calls.{beginData, written, dataBy, dataOutBy, dataAnswer, processBytes, processBytesOut, sealLast, sealTag, openBlock, openLast, receivedTag, openTag, sealFinal, openFinalBy, openFinal, openEndOut, finalBy, finalOutBy, finalAnswer, doFinal, doFinalOut, readable, macOf, stepsNow}
+use Rattle.tc_sparkle_aead.specs.Message.{zeros, noMac, written, readable}
+use Rattle.tc_sparkle_aead.specs.Calls.{beginData, dataBy, dataOutBy, dataAnswer, processBytes, processBytesOut, sealLast, sealTag, openBlock, openLast, receivedTag, openTag, sealFinal, openFinalBy, openFinal, openEndOut, finalBy, finalOutBy, finalAnswer, doFinal, doFinalOut, macOf, stepsNow}
 use Rattle.tc_aead_cipher.proofs.VariantLaws.{sizes}
 use Rattle.schwaemm.proofs.RoundTrip.{length-decrypt}
 use Rattle.tc_aead_cipher.specs.Call.{Call}

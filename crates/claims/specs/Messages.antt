@@ -17,8 +17,8 @@ use Rattle.tc_aead_cipher.specs.declared.aead_error.AeadResult.the-variants.{Ok
 use Rattle.tc_sparkle_aead.specs.declared.engine.SparkleEngine.{SparkleEngine}
 use Rattle.tc_aead_cipher.specs.Variant.{paramsOf}
 use Rattle.tc_aead_cipher.specs.Checks.{opening, keep, updateLen, totalLen, aadCheck, dataCheck, endCheck, startCheck}
-use Rattle.tc_sparkle_aead.specs.Engine.{zeros, noMac}
-use Rattle.tc_sparkle_aead.specs.Calls.{plainOf, readable, macOf, stepsNow}
+use Rattle.tc_sparkle_aead.specs.Message.{zeros, noMac, plainOf, readable}
+use Rattle.tc_sparkle_aead.specs.Calls.{macOf, stepsNow}
 use Rattle.tc_aead_cipher.specs.Call.{Call}
 use Rattle.tc_aead_cipher.specs.Outcome.{Outcome, outcome, startOutcome}
 use Rattle.tc_sparkle_aead.specs.Sheet.{StepResult, step, runFrom, run}

@@ -12,8 +12,9 @@ use Rattle.tc_aead_cipher.specs.declared.phase.Phase.{Phase}
 use Rattle.tc_aead_cipher.specs.declared.phase.Phase.the-variants.{Uninitialized, Init, Aad, Data, Final}
 use Rattle.tc_sparkle_aead.specs.declared.engine.SparkleEngine.{SparkleEngine}
 use Rattle.tc_aead_cipher.specs.Variant.{paramsOf}
-use Rattle.tc_sparkle_aead.specs.Engine.{zeros, noMessage, noMac, noSteps}
-use Rattle.tc_sparkle_aead.specs.Calls.{receivedTag, openTag, finalPoint}
+use Rattle.tc_sparkle_aead.specs.Message.{zeros, noMessage, noMac, finalPoint}
+use Rattle.tc_sparkle_aead.specs.Engine.{noSteps}
+use Rattle.tc_sparkle_aead.specs.Calls.{receivedTag, openTag}
 use Rattle.tc_aead_cipher.specs.Call.{Call}
 use Rattle.tc_aead_cipher.specs.Outcome.{Outcome}
 use Rattle.tc_sparkle_aead.specs.Sheet.{step}

@@ -11,7 +11,7 @@ use lib.Seq.{take-at, take-all, drop-at, drop-drop, length-take-le}
 use Rattle.tc_aead_cipher.specs.declared.variant.SparkleVariant.{SparkleVariant}
 use Rattle.tc_sparkle_aead.specs.declared.engine.SparkleEngine.{SparkleEngine}
 use Rattle.tc_sparkle_aead.specs.Engine.{newEngine}
-use Rattle.tc_sparkle_aead.specs.Calls.{written}
+use Rattle.tc_sparkle_aead.specs.Message.{written}
 use Rattle.tc_aead_cipher.specs.Call.{Call}
 use Rattle.tc_sparkle_aead.specs.Sheet.{step}
 use Rattle.host.specs.declared.call.Head.{Head}

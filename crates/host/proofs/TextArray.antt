@@ -6,7 +6,7 @@ use native.Mathlib.Nat.{min-eq-left}
 use native.Mathlib.Omega.{arith}
 use lib.ListN.{length, set, replicate, length-append}
 use lib.Seq.{set-append-seam, take-append-le}
-use Rattle.tc_sparkle_aead.specs.Engine.{inArray, zeros}
+use Rattle.tc_sparkle_aead.specs.Message.{inArray, zeros}
 use Rattle.tc_sparkle_aead.proofs.StateLaws.{inArray-zeros}
 use Rattle.host.specs.declared.text.Text.{Text}
 use Rattle.host.specs.Text.{textOf, cut, Adds}

@@ -9,7 +9,7 @@ use lib.Dec.{ltb}
 use lib.ListN.{length}
 use Rattle.tc_aead_cipher.specs.declared.variant.SparkleVariant.{SparkleVariant}
 use Rattle.tc_aead_cipher.specs.Variant.{number}
-use Rattle.tc_sparkle_aead.specs.Engine.{inArray}
+use Rattle.tc_sparkle_aead.specs.Message.{inArray}
 use Rattle.tc_aead_cipher.specs.Call.{Call}
 use Rattle.tc_aead_cipher.specs.Outcome.{Outcome}
 use Rattle.tc_sparkle_aead.specs.Sheet.{Line, sheet}

@@ -3,7 +3,7 @@
 ghost use mathlib.Core.Path.{_≡_};
 ghost use Prim.Native.Nat.{_-_};
 ghost use lib.ListN.{length};
-ghost use Rattle.tc_sparkle_aead.specs.Calls.{written};
+ghost use Rattle.tc_sparkle_aead.specs.Message.{written};
 ghost use Rattle.host.specs.CallList.{runList};
 
 mod bytes;

@@ -3,7 +3,7 @@ ghost use mathlib.Core.Path.{_≡_};
 ghost use Prim.Native.Nat.{_+_, _-_, _≤_};
 ghost use lib.ListN.{length, drop};
 ghost use lib.Dec.{leb};
-ghost use Rattle.tc_sparkle_aead.specs.Calls.{written};
+ghost use Rattle.tc_sparkle_aead.specs.Message.{written};
 ghost use Rattle.host.specs.CallList.{runCalls, runList};
 use super::call;
 use super::call::Read;

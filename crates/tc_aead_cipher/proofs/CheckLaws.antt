@@ -8,6 +8,8 @@ use borrow.Author.Tests.{lt-ltb, le-ltb, eq-eqb, ne-eqb, eqb-true, eqb-false}
 use Rattle.schwaemm.specs.Blocks.{ready}
 use Rattle.schwaemm.specs.Schwaemm.{Params}
 use Rattle.tc_aead_cipher.specs.Checks.{opens, opening, heldData, keep, then, within64, updateLen, totalLen, phaseCheck, room, whole, dataCheck, endCheck, startCheck}
+use Rattle.tc_aead_cipher.specs.Variant.{paramsOf}
+use Rattle.tc_aead_cipher.specs.declared.variant.SparkleVariant.{SparkleVariant}
 use Rattle.tc_aead_cipher.specs.declared.phase.Direction.{Direction}
 use Rattle.tc_aead_cipher.specs.declared.phase.Phase.{Phase}
 use Rattle.tc_aead_cipher.specs.declared.aead_error.AeadError.{AeadError}
@@ -61,29 +63,29 @@ module _ (p : Params) (phase : Phase) (held n : ℕ) where
   unfolding totalLen
   totalLen-sealing is-sealing fits = rw (is-sealing, lt-ltb _ _ fits) refl
 
-module _ (p : Params) (direction : Direction) (key nonce size : ℕ) (repeats : Bool) where
+module _ (v : SparkleVariant) (direction : Direction) (key nonce size : ℕ) (repeats : Bool) where
   -- A start: 1, 2, 3 in this order; what is left is the direction's and the pair's to say.
-  pub startCheck-key : (key ≡ p .key → ⊥) → startCheck p direction key nonce size repeats ≡ Refused (InvalidKeyLength key)
+  pub startCheck-key : (key ≡ paramsOf v .key → ⊥) → startCheck v direction key nonce size repeats ≡ Refused (InvalidKeyLength key)
   unfolding startCheck
   startCheck-key wrong = rw (ne-eqb _ _ wrong) refl
 
-  pub startCheck-nonce : key ≡ p .key → (nonce ≡ p .rate → ⊥)
-      → startCheck p direction key nonce size repeats ≡ Refused (InvalidNonceLength nonce)
+  pub startCheck-nonce : key ≡ paramsOf v .key → (nonce ≡ paramsOf v .rate → ⊥)
+      → startCheck v direction key nonce size repeats ≡ Refused (InvalidNonceLength nonce)
   unfolding startCheck
   startCheck-nonce k wrong = rw (eq-eqb _ _ k, ne-eqb _ _ wrong) refl
 
-  pub startCheck-size : key ≡ p .key → nonce ≡ p .rate → (size ≡ p .key → ⊥)
-      → startCheck p direction key nonce size repeats ≡ Refused (InvalidMacSize size)
+  pub startCheck-size : key ≡ paramsOf v .key → nonce ≡ paramsOf v .rate → (size ≡ paramsOf v .key → ⊥)
+      → startCheck v direction key nonce size repeats ≡ Refused (InvalidMacSize size)
   unfolding startCheck
   startCheck-size k n wrong = rw (eq-eqb _ _ k, eq-eqb _ _ n, ne-eqb _ _ wrong) refl
 
-  module _ (k : key ≡ p .key) (n : nonce ≡ p .rate) (s : size ≡ p .key) where
-    pub startCheck-opening : opens direction ≡ true → startCheck p direction key nonce size repeats ≡ Started
+  module _ (k : key ≡ paramsOf v .key) (n : nonce ≡ paramsOf v .rate) (s : size ≡ paramsOf v .key) where
+    pub startCheck-opening : opens direction ≡ true → startCheck v direction key nonce size repeats ≡ Started
     unfolding startCheck
     startCheck-opening is-opening = rw (eq-eqb _ _ k, eq-eqb _ _ n, eq-eqb _ _ s, is-opening) refl
 
     pub startCheck-sealing : opens direction ≡ false
-        → startCheck p direction key nonce size repeats ≡ cond repeats (Refused NonceReuse) Started
+        → startCheck v direction key nonce size repeats ≡ cond repeats (Refused NonceReuse) Started
     unfolding startCheck
     startCheck-sealing is-sealing = rw (eq-eqb _ _ k, eq-eqb _ _ n, eq-eqb _ _ s, is-sealing) refl
 
@@ -135,21 +137,21 @@ module _ (p : Params) (phase : Phase) (held n available : ℕ) (first : AeadResu
       ∙ ap (λ (k : AeadResult). then k (λ _. then (updateLen p phase held n) (room available))) (sym passed ∙ ef)
 
 -- a passed check: key and nonce have the variant's lengths
-module _ (p : Params) (direction : Direction) (key nonce size : ℕ) (again : Bool)
-    (taken : startCheck p direction key nonce size again ≡ Started) where
-  key-by : (t : Bool) → eqb key (p .key) ≡ t → key ≡ p .key
-  key-by true e = eqb-true key (p .key) e
+module _ (v : SparkleVariant) (direction : Direction) (key nonce size : ℕ) (again : Bool)
+    (passed : startCheck v direction key nonce size again ≡ Started) where
+  key-by : (t : Bool) → eqb key (paramsOf v .key) ≡ t → key ≡ paramsOf v .key
+  key-by true e = eqb-true key (paramsOf v .key) e
   key-by false e =
-      let wrong = startCheck-key p direction key nonce size again (eqb-false key (p .key) e) in
+      let wrong = startCheck-key v direction key nonce size again (eqb-false key (paramsOf v .key) e) in
       let z : _≡_ {A = ℕ} 0 1 = cc in
       absurd (omega arith)
 
-  nonce-by : (t : Bool) → key ≡ p .key → eqb nonce (p .rate) ≡ t → nonce ≡ p .rate
-  nonce-by true k e = eqb-true nonce (p .rate) e
+  nonce-by : (t : Bool) → key ≡ paramsOf v .key → eqb nonce (paramsOf v .rate) ≡ t → nonce ≡ paramsOf v .rate
+  nonce-by true k e = eqb-true nonce (paramsOf v .rate) e
   nonce-by false k e =
-      let wrong = startCheck-nonce p direction key nonce size again k (eqb-false nonce (p .rate) e) in
+      let wrong = startCheck-nonce v direction key nonce size again k (eqb-false nonce (paramsOf v .rate) e) in
       let z : _≡_ {A = ℕ} 0 1 = cc in
       absurd (omega arith)
 
-  pub startCheck-lengths : (key ≡ p .key) × (nonce ≡ p .rate)
+  pub startCheck-lengths : (key ≡ paramsOf v .key) × (nonce ≡ paramsOf v .rate)
   startCheck-lengths = (key-by _ refl, nonce-by _ (key-by _ refl) refl)

@@ -5,6 +5,7 @@ use mathlib.Core.Bool.{Bool, true, false, cond, not}
 use lib.Dec.{eqb, ltb}
 use Rattle.schwaemm.specs.Blocks.{ready}
 use Rattle.schwaemm.specs.Schwaemm.{Params}
+use Rattle.tc_aead_cipher.specs.declared.variant.SparkleVariant.{SparkleVariant}
 use Rattle.tc_aead_cipher.specs.declared.phase.Direction.{Direction}
 use Rattle.tc_aead_cipher.specs.declared.phase.Direction.the-variants.{Encrypt, Decrypt}
 use Rattle.tc_aead_cipher.specs.declared.phase.Phase.{Phase}
@@ -15,6 +16,7 @@ use Rattle.tc_aead_cipher.specs.declared.aead_error.AeadResult.the-varia
 use Rattle.tc_aead_cipher.specs.declared.aead_init_error.AeadInitError.the-variants.{InvalidKeyLength, InvalidNonceLength, InvalidMacSize, NonceReuse}
 use Rattle.tc_aead_cipher.specs.declared.aead_init_error.AeadInitResult.{AeadInitResult}
 use Rattle.tc_aead_cipher.specs.declared.aead_init_error.AeadInitResult.the-variants.{Ok as Started, Err as Refused}
+use Rattle.tc_aead_cipher.specs.Variant.{paramsOf}
 
 -- A phase's direction, and whether a direction, and a phase, opens. `Uninitialized` counts as sealing.
 abbrev pub directionOf : Phase → Direction
@@ -108,8 +110,9 @@ endCheck p phase held available =
     then (phaseCheck phase) (λ _. then (then (totalLen p phase held 0) (room available)) (whole p phase held))
 
 -- A start in a direction: key length, nonce length, tag size; then, for sealing only, whether the pair repeats.
-unfoldable pub startCheck : Params → Direction → ℕ → ℕ → ℕ → Bool → AeadInitResult
-startCheck p direction key nonce size repeats =
+unfoldable pub startCheck : SparkleVariant → Direction → ℕ → ℕ → ℕ → Bool → AeadInitResult
+startCheck v direction key nonce size repeats =
+    let p = paramsOf v in
     cond (not (eqb key (p .key))) (Refused (InvalidKeyLength key))
     (cond (not (eqb nonce (p .rate))) (Refused (InvalidNonceLength nonce))
     (cond (not (eqb size (p .key))) (Refused (InvalidMacSize size))

@@ -210,7 +210,7 @@ pub fn start_check(
     size: usize,
     repeats: bool,
 ) -> AeadInitResult
-    ensures { λ r. ⌜ r ≡ startCheck (paramsOf variant) direction key nonce size repeats ⌝ }
+    ensures { λ r. ⌜ r ≡ startCheck variant direction key nonce size repeats ⌝ }
 {
     if key != variant.key_bytes() {
         return AeadInitResult::Err(AeadInitError::InvalidKeyLength { actual: key });

@@ -18,7 +18,8 @@ use Rattle.tc_sparkle_aead.specs.declared.engine.Steps.{Steps}
 use Rattle.tc_sparkle_aead.specs.declared.engine.SparkleEngine.{SparkleEngine}
 use Rattle.tc_aead_cipher.specs.Variant.{paramsOf}
 use Rattle.tc_aead_cipher.specs.Checks.{heldData}
-use Rattle.tc_sparkle_aead.specs.Calls.{bufferedCount, addSteps, atPoint, withoutHeader, afterHeader, beginPoint, beginSteps, beginBy, messageAt, finalPoint, finalEngine}
+use Rattle.tc_sparkle_aead.specs.Message.{bufferedCount, withoutHeader, afterHeader, beginPoint, beginSteps, finalPoint}
+use Rattle.tc_sparkle_aead.specs.Calls.{addSteps, atPoint, beginBy, messageAt, finalEngine}
 use Rattle.tc_aead_cipher.proofs.phase.Phase.{the-type}
 
 -- ---- The point, by the phase.

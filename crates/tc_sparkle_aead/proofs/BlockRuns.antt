@@ -11,8 +11,7 @@ use Rattle.schwaemm.specs.Schwaemm.{Params, Sizes, mix, crypt, absorbBlock, mes
 use Rattle.schwaemm.proofs.Cut.{after-add, given-add, after-keeps}
 use Rattle.schwaemm.proofs.States.{stateLength, length-absorbBlock, length-messageBlock}
 use Rattle.schwaemm.proofs.RoundTrip.{length-crypted-blocks}
-use Rattle.tc_sparkle_aead.specs.Engine.{inArray}
-use Rattle.tc_sparkle_aead.specs.Calls.{stateIn, putState}
+use Rattle.tc_sparkle_aead.specs.Message.{inArray, stateIn, putState}
 use Rattle.tc_aead_cipher.proofs.VariantLaws.{Small}
 use Rattle.tc_sparkle_aead.proofs.StateLaws.{all-inArray, length-stateIn, state-put, put-put, put-state}
 

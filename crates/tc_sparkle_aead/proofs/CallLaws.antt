@@ -11,8 +11,7 @@ use Rattle.schwaemm.proofs.Cut.{ready-bound, rest-below}
 use Rattle.tc_aead_cipher.specs.declared.phase.Phase.{Phase}
 use Rattle.tc_aead_cipher.specs.declared.phase.Phase.the-variants.{Uninitialized, Init, Aad, Data, Final}
 use Rattle.tc_sparkle_aead.specs.declared.message.Point.{Point}
-use Rattle.tc_sparkle_aead.specs.Engine.{inArray}
-use Rattle.tc_sparkle_aead.specs.Calls.{stateIn, putState, bufferedCount, buffered, stream, blockCount, streamed}
+use Rattle.tc_sparkle_aead.specs.Message.{inArray, stateIn, putState, bufferedCount, buffered, stream, blockCount, streamed}
 use Rattle.tc_aead_cipher.proofs.VariantLaws.{Small, keep-bound}
 
 -- at most 64 bytes are held

@@ -22,7 +22,8 @@ use Rattle.tc_aead_cipher.specs.declared.aead_error.AeadResult.{AeadResult}
 use Rattle.tc_aead_cipher.specs.declared.aead_error.AeadResult.the-variants.{Ok, Err}
 use Rattle.tc_sparkle_aead.specs.declared.engine.SparkleEngine.{SparkleEngine}
 use Rattle.tc_aead_cipher.specs.Checks.{keep, heldData, then, room, updateLen, dataCheck}
-use Rattle.tc_sparkle_aead.specs.Calls.{stateIn, bufferedCount, blockCount, plainOf, streamOut, written, atPoint, withoutHeader, afterHeader, beginPoint, beginSteps, beginBy, beginData, dataFrom, dataIn, dataOut, dataBy, dataOutBy, dataAnswer, processBytes, processBytesOut}
+use Rattle.tc_sparkle_aead.specs.Message.{stateIn, bufferedCount, blockCount, plainOf, streamOut, written, withoutHeader, afterHeader, beginPoint, beginSteps, dataFrom}
+use Rattle.tc_sparkle_aead.specs.Calls.{atPoint, beginBy, beginData, dataIn, dataOut, dataBy, dataOutBy, dataAnswer, processBytes, processBytesOut}
 use Rattle.tc_sparkle_aead.proofs.Fill.{length-zeros}
 use Rattle.tc_aead_cipher.proofs.VariantLaws.{Small}
 use Rattle.tc_sparkle_aead.proofs.BeginLaws.{begin-at, begin-current, begin-variant}

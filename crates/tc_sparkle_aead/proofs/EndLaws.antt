@@ -17,8 +17,9 @@ use Rattle.tc_sparkle_aead.specs.declared.engine.SparkleEngine.{SparkleE
 use Rattle.tc_sparkle_aead.specs.declared.message.End.{End}
 use Rattle.tc_sparkle_aead.specs.declared.engine.Mac.{Mac}
 use Rattle.tc_aead_cipher.specs.Variant.{paramsOf}
-use Rattle.tc_sparkle_aead.specs.Engine.{zeros, inArray, noMac, currentKey}
-use Rattle.tc_sparkle_aead.specs.Calls.{stateIn, putState, bufferedCount, buffered, lastState, lastSteps, written, sealTag, sealLast, openBlock, receivedTag, openLast, openTag, readable, sealEnd, openEnd, openEndOut}
+use Rattle.tc_sparkle_aead.specs.Message.{zeros, inArray, noMac, stateIn, putState, bufferedCount, buffered, lastState, lastSteps, written, readable}
+use Rattle.tc_sparkle_aead.specs.Engine.{currentKey}
+use Rattle.tc_sparkle_aead.specs.Calls.{sealTag, sealLast, openBlock, receivedTag, openLast, openTag, sealEnd, openEnd, openEndOut}
 use Rattle.tc_aead_cipher.proofs.VariantLaws.{Small, sizes, small}
 use Rattle.tc_sparkle_aead.proofs.Fill.{length-zeros}
 use Rattle.tc_sparkle_aead.proofs.StateLaws.{all-inArray, state-put, put-state, length-stateIn}

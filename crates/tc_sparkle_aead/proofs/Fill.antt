@@ -8,7 +8,7 @@ use native.Mathlib.Numerals.{add-one}
 use native.Mathlib.Omega.{arith}
 use lib.ListN.{length, take, drop, getD, set, replicate, drop-of-length-le, length-replicate}
 use lib.Seq.{take-all}
-use Rattle.tc_sparkle_aead.specs.Engine.{zeros, inArray}
+use Rattle.tc_sparkle_aead.specs.Message.{zeros, inArray}
 
 -- the first i elements of the target t before what is left of the array d
 unfoldable pub laid : List ℕ → List ℕ → ℕ → List ℕ

@@ -23,8 +23,9 @@ use Rattle.tc_sparkle_aead.specs.declared.engine.Done.{Done}
 use Rattle.tc_sparkle_aead.specs.declared.engine.SparkleEngine.{SparkleEngine}
 use Rattle.tc_aead_cipher.specs.Variant.{paramsOf}
 use Rattle.tc_aead_cipher.specs.Checks.{opening, keep, heldData, then, within64, room, phaseCheck, totalLen, whole, endCheck}
-use Rattle.tc_sparkle_aead.specs.Engine.{noMac, currentKey}
-use Rattle.tc_sparkle_aead.specs.Calls.{bufferedCount, atPoint, beginPoint, beginSteps, beginData, written, messageAt, sealLast, sealTag, sealFinal, openBlock, openLast, receivedTag, openTag, finalEngine, finish, readable, answered, sealEnd, openEnd, openFinal, openFinalBy, openEndOut, finalBy, finalOutBy, finalAnswer, doFinal, doFinalOut}
+use Rattle.tc_sparkle_aead.specs.Message.{noMac, bufferedCount, beginPoint, beginSteps, written, readable}
+use Rattle.tc_sparkle_aead.specs.Engine.{currentKey}
+use Rattle.tc_sparkle_aead.specs.Calls.{atPoint, beginData, messageAt, sealLast, sealTag, sealFinal, openBlock, openLast, receivedTag, openTag, finalEngine, finish, answered, sealEnd, openEnd, openFinal, openFinalBy, openEndOut, finalBy, finalOutBy, finalAnswer, doFinal, doFinalOut}
 use Rattle.tc_sparkle_aead.proofs.BeginLaws.{begin-held, begin-ended, begin-message}
 
 -- ---- A check that passes.

@@ -17,7 +17,8 @@ use Rattle.tc_sparkle_aead.specs.declared.message.Point.{Point}
 use Rattle.tc_sparkle_aead.specs.declared.engine.SparkleEngine.{SparkleEngine}
 use Rattle.tc_aead_cipher.specs.Variant.{paramsOf}
 use Rattle.tc_aead_cipher.specs.Checks.{directionOf, headerCheck, aadCheck}
-use Rattle.tc_sparkle_aead.specs.Calls.{streamed, atPoint, absorbHeader, headerSteps, aadIn, aadBy, processAadBytes}
+use Rattle.tc_sparkle_aead.specs.Message.{streamed, absorbHeader, headerSteps}
+use Rattle.tc_sparkle_aead.specs.Calls.{atPoint, aadIn, aadBy, processAadBytes}
 use Rattle.tc_aead_cipher.proofs.VariantLaws.{Small}
 
 -- no header, and a header

@@ -19,8 +19,9 @@ use Rattle.tc_sparkle_aead.specs.declared.engine.Mac.{Mac}
 use Rattle.tc_sparkle_aead.specs.declared.engine.SparkleEngine.{SparkleEngine}
 use Rattle.tc_aead_cipher.specs.Variant.{paramsOf}
 use Rattle.tc_aead_cipher.specs.Checks.{startCheck}
-use Rattle.tc_sparkle_aead.specs.Engine.{noMac, newEngine, repeats, remember, initSteps}
-use Rattle.tc_sparkle_aead.specs.Calls.{startPoint, absorbHeader, headerSteps, started, refused, initBy, init}
+use Rattle.tc_sparkle_aead.specs.Message.{noMac, startPoint, absorbHeader, headerSteps}
+use Rattle.tc_sparkle_aead.specs.Engine.{newEngine, repeats, remember, initSteps}
+use Rattle.tc_sparkle_aead.specs.Calls.{started, refused, initBy, init}
 
 -- lists of different lengths differ
 differ-by : (u v : List ℕ) (t : Bool) → same u v ≡ t → (length u ≡ length v → ⊥) → same u v ≡ false
@@ -68,7 +69,7 @@ module _ (p : Params) (pair : Pair) (key nonce : List ℕ) where
 pub started-is : (e : SparkleEngine) (d : Direction) (key nonce header : List ℕ) (at point : Point) (pair : Pair) (mac : Mac)
     (big steps count : ℕ)
     → at ≡ startPoint (paramsOf (e .variant)) d key nonce → point ≡ absorbHeader (paramsOf (e .variant)) d at header
-    → pair ≡ remember key nonce → mac ≡ noMac → big ≡ paramsOf (e .variant) .big
+    → pair ≡ remember (e .pair) key nonce → mac ≡ noMac → big ≡ paramsOf (e .variant) .big
     → steps ≡ headerSteps (paramsOf (e .variant)) at header → count ≡ (big + steps) % 2 ^ 64
     → _≡_ {A = SparkleEngine}
     (record {
@@ -98,18 +99,18 @@ started-is e d key nonce header at point pair mac big steps count ea ep er em eb
 -- of the engine before it only the variant counts
 pub started-by-variant : (e : SparkleEngine) (d : Direction) (key nonce header : List ℕ)
     → started (newEngine (e .variant)) d key nonce header ≡ started e d key nonce header
-unfolding started newEngine
+unfolding started newEngine remember initSteps
 started-by-variant e d key nonce header = refl
 
 -- a start by its check: what it answers, and the engine afterwards
 module _ (e : SparkleEngine) (d : Direction) (key nonce : List ℕ) (size : ℕ) (header : List ℕ) (again : Bool)
     (check : AeadInitResult) (engine : SparkleEngine) (ea : again ≡ repeats (paramsOf (e .variant)) (e .pair) key nonce)
-    (ec : check ≡ startCheck (paramsOf (e .variant)) d (length key) (length nonce) size again) where
+    (ec : check ≡ startCheck (e .variant) d (length key) (length nonce) size again) where
   init-by : (answer : AeadInitResult) → check ≡ answer → initBy answer e d key nonce header ≡ init e d key nonce size header
   unfolding init
   init-by answer told =
       ap (λ (x : AeadInitResult). initBy x e d key nonce header)
-      (sym told ∙ ec ∙ ap (startCheck (paramsOf (e .variant)) d (length key) (length nonce) size) ea)
+      (sym told ∙ ec ∙ ap (startCheck (e .variant) d (length key) (length nonce) size) ea)
 
   pub init-taken : check ≡ Accepted → engine ≡ started e d key nonce header
       → record { answer = check; engine = engine } ≡ init e d key nonce size header

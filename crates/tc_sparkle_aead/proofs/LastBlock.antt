@@ -8,8 +8,7 @@ use lib.Seq.{length-take-le, set-at, set-append-left, getD-take}
 use lib.Bits.{bitXor}
 use Rattle.schwaemm.specs.Schwaemm.{Params, Sizes, mix, padded, domain, withDomain, lastV, mixLast}
 use Rattle.schwaemm.proofs.States.{stateLength, length-padded, padded-short, length-withDomain}
-use Rattle.tc_sparkle_aead.specs.Engine.{inArray}
-use Rattle.tc_sparkle_aead.specs.Calls.{stateIn, putState}
+use Rattle.tc_sparkle_aead.specs.Message.{inArray, stateIn, putState}
 use Rattle.tc_aead_cipher.proofs.VariantLaws.{Small}
 use Rattle.tc_sparkle_aead.proofs.StateLaws.{all-inArray, inArray-zeros, state-put, put-put, state-fits, length-stateIn}
 

@@ -17,7 +17,7 @@ use Rattle.schwaemm.specs.Schwaemm.{Params, Sizes, outer, inner, permute, feist
 use Rattle.schwaemm.proofs.ByteWords.{toWords-take, toBytes-take, toBytes-xors}
 use Rattle.schwaemm.proofs.Xors.{xors-enough, xors-at, xors-take}
 use Rattle.schwaemm.proofs.States.{stateLength, mixed, mix-mixed, mix-exact, length-outer, length-inner}
-use Rattle.tc_sparkle_aead.specs.Calls.{stateIn, putState, feedbackAt, whiteningAt}
+use Rattle.tc_sparkle_aead.specs.Message.{stateIn, putState, feedbackAt, whiteningAt}
 use Rattle.tc_sparkle_aead.proofs.Fill.{laid, laid-turn}
 use Rattle.tc_sparkle_aead.proofs.StateLaws.{state-length, state-put, put-put}
 

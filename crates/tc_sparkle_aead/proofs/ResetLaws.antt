@@ -13,7 +13,7 @@ use Rattle.tc_aead_cipher.specs.declared.phase.Phase.{Phase}
 use Rattle.tc_aead_cipher.specs.declared.phase.Phase.the-variants.{Uninitialized, Init, Aad, Data, Final}
 use Rattle.tc_sparkle_aead.specs.declared.message.Point.{Point}
 use Rattle.tc_aead_cipher.specs.Checks.{opening}
-use Rattle.tc_sparkle_aead.specs.Calls.{finalPoint, resetPoint}
+use Rattle.tc_sparkle_aead.specs.Message.{finalPoint, resetPoint}
 use Rattle.tc_aead_cipher.proofs.phase.Phase.{the-type}
 
 -- a reset of an opening, and of a sealing in Data or Final

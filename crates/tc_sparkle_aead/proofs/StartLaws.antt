@@ -9,8 +9,7 @@ use Rattle.schwaemm.specs.Bytes.{toWords}
 use Rattle.schwaemm.specs.Schwaemm.{Params, Sizes, permute, initialise}
 use Rattle.schwaemm.proofs.ByteWords.{toWords-append, length-toWords}
 use Rattle.schwaemm.proofs.States.{stateLength, length-initialise}
-use Rattle.tc_sparkle_aead.specs.Engine.{inArray}
-use Rattle.tc_sparkle_aead.specs.Calls.{stateIn, putState}
+use Rattle.tc_sparkle_aead.specs.Message.{inArray, stateIn, putState}
 use Rattle.tc_aead_cipher.proofs.VariantLaws.{Small}
 use Rattle.tc_sparkle_aead.proofs.StateLaws.{all-inArray, inArray-zeros, state-fits}
 

@@ -8,8 +8,7 @@ use lib.ListN.{length, take, drop, replicate, length-append, length-replicate, t
 use lib.Seq.{length-take-le, take-all, take-append-le, take-take, take-at, drop-at}
 use Rattle.schwaemm.specs.Schwaemm.{Params, Sizes}
 use Rattle.schwaemm.proofs.States.{stateLength}
-use Rattle.tc_sparkle_aead.specs.Engine.{zeros, inArray}
-use Rattle.tc_sparkle_aead.specs.Calls.{stateIn, putState}
+use Rattle.tc_sparkle_aead.specs.Message.{zeros, inArray, stateIn, putState}
 use Rattle.tc_aead_cipher.proofs.VariantLaws.{Small}
 
 -- the first elements of a list in an array

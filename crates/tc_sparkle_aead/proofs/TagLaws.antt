@@ -20,7 +20,7 @@ use Rattle.schwaemm.proofs.Xors.{xors-at, xors-enough}
 use Rattle.sparkle.proofs.Below.{Bytes, below-of, below-take}
 use Rattle.schwaemm.proofs.ByteWords.{length-toBytes, toBytes-toWords, toBytes-append, toBytes-drop, toBytes-xors}
 use Rattle.schwaemm.proofs.States.{stateLength}
-use Rattle.tc_sparkle_aead.specs.Calls.{stateIn}
+use Rattle.tc_sparkle_aead.specs.Message.{stateIn}
 use Rattle.tc_aead_cipher.proofs.VariantLaws.{Small}
 use Rattle.tc_sparkle_aead.proofs.StateLaws.{state-fits}
 

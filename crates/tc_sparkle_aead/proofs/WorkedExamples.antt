@@ -13,8 +13,9 @@ use Rattle.schwaemm.specs.Schwaemm.{domain, leading, stepsOf, steps}
 use Rattle.tc_aead_cipher.specs.Variant.{paramsOf}
 use Rattle.tc_aead_cipher.specs.Refusals.{refusal}
 use Rattle.tc_aead_cipher.specs.Checks.{updateLen, totalLen, endCheck}
-use Rattle.tc_sparkle_aead.specs.Engine.{noMessage, newEngine, repeats, updateOutputLen, outputLen}
-use Rattle.tc_sparkle_aead.specs.Calls.{streamed, absorbHeader, started, initBy, init, doFinal}
+use Rattle.tc_sparkle_aead.specs.Message.{noMessage, streamed, absorbHeader}
+use Rattle.tc_sparkle_aead.specs.Engine.{newEngine, repeats, updateOutputLen, outputLen}
+use Rattle.tc_sparkle_aead.specs.Calls.{started, initBy, init, doFinal}
 use Rattle.tc_aead_cipher.specs.declared.variant.SparkleVariant.{SparkleVariant}
 use Rattle.tc_aead_cipher.specs.declared.variant.SparkleVariant.the-variants.{«Schwaemm128_128», «Schwaemm256_128», «Schwaemm192_192», «Schwaemm256_256»}
 use Rattle.tc_aead_cipher.specs.declared.phase.Direction.the-variants.{Encrypt, Decrypt}
@@ -82,7 +83,7 @@ after-init key nonce [] k n h = absurd (omega arith)
 after-init key nonce (x ∷ header) k n h =
     let p = paramsOf «Schwaemm128_128» in
     let again = repeats p (newEngine «Schwaemm128_128» .pair) key nonce in
-    let taken = startCheck-opening p Decrypt (length key) (length nonce) 16 again k n refl refl in
+    let taken = startCheck-opening «Schwaemm128_128» Decrypt (length key) (length nonce) 16 again k n refl refl in
     record {
       variant = ap (λ (r : AeadInitResult). initBy r (newEngine «Schwaemm128_128») Decrypt key nonce (x ∷ header) .engine .variant) taken;
       phase-is =

@@ -1,14 +1,12 @@
 -- The calls: for every engine value, the answer, the engine afterwards and the lent output (document 01, "At the entry:
 -- phase and call" and "Down to the block"). A call that is refused with 4, 5 or 7 to 10 leaves engine and output as they were.
-use Prim.Native.Nat.{ℕ, _+_, _-_, _*_, _/_, _%_, _^_, min}
+use Prim.Native.Nat.{ℕ, _+_, _-_, _%_, _^_}
 use mathlib.Core.Bool.{Bool, true, false, cond}
 use mathlib.Core.List.{List, [], _∷_, _++_}
-use lib.ListN.{length, take, drop, getD}
-use lib.Dec.{ltb}
-use lib.Bits.{bitXor}
-use Rattle.schwaemm.specs.Bytes.{ifEmpty, same}
-use Rattle.schwaemm.specs.Blocks.{ready, after, given, held}
-use Rattle.schwaemm.specs.Schwaemm.{Params, crypt, mixLast, initialise, absorbBlock, sealing as sealingBlock, opening as openingBlock, messageBlock, tagOf}
+use lib.ListN.{length, take, drop}
+use Rattle.schwaemm.specs.Bytes.{same}
+use Rattle.schwaemm.specs.Blocks.{held}
+use Rattle.schwaemm.specs.Schwaemm.{crypt, tagOf}
 use Rattle.tc_aead_cipher.specs.declared.phase.Direction.{Direction}
 use Rattle.tc_aead_cipher.specs.declared.phase.Direction.the-variants.{Encrypt, Decrypt}
 use Rattle.tc_aead_cipher.specs.declared.phase.Phase.{Phase}
@@ -25,61 +23,14 @@ use Rattle.tc_sparkle_aead.specs.declared.engine.Mac.{Mac}
 use Rattle.tc_sparkle_aead.specs.declared.engine.Steps.{Steps}
 use Rattle.tc_sparkle_aead.specs.declared.engine.SparkleEngine.{SparkleEngine}
 use Rattle.tc_sparkle_aead.specs.declared.engine.Done.{Done}
-use Rattle.tc_sparkle_aead.specs.declared.message.Progress.{Progress}
 use Rattle.tc_sparkle_aead.specs.declared.message.End.{End}
 use Rattle.tc_sparkle_aead.specs.declared.engine.Started.{Started}
 use Rattle.tc_aead_cipher.specs.Variant.{paramsOf}
-use Rattle.tc_aead_cipher.specs.Checks.{opening, keep, heldData, aadCheck, dataCheck, endCheck, startCheck}
-use Rattle.tc_sparkle_aead.specs.Engine.{zeros, inArray, noMessage, noMac, repeats, remember, currentKey, noSteps, initSteps, resetSteps}
+use Rattle.tc_aead_cipher.specs.Checks.{opening, aadCheck, dataCheck, endCheck, startCheck}
+use Rattle.tc_sparkle_aead.specs.Message.{zeros, noMessage, noMac, stateIn, buffered, startPoint, absorbHeader, headerSteps, withoutHeader, afterHeader, dataFrom, streamOut, written, lastState, lastSteps, finalPoint, readable, resetPoint}
+use Rattle.tc_sparkle_aead.specs.Engine.{repeats, remember, currentKey, noSteps, refusedSteps, initSteps, resetSteps}
 
 -- ---- A point of a message
-
--- The state in the engine's array of words, and the array with another state.
-unfoldable pub stateIn : Params → List ℕ → List ℕ
-stateIn p words = take ((p .rate + p .key) / 4) words
-
-unfoldable pub putState : Params → List ℕ → List ℕ → List ℕ
-putState p words s = s ++ drop ((p .rate + p .key) / 4) words
-
--- Word k of the feedback and of the whitening, in the engine's array of words; half, rate and key are in words.
-unfoldable pub feedbackAt : List ℕ → ℕ → ℕ → ℕ
-feedbackAt words half k =
-    cond (ltb k half) (getD words (k + half) 0) (bitXor (getD words k 0) (getD words (k - half) 0))
-
-unfoldable pub whiteningAt : List ℕ → ℕ → ℕ → ℕ → ℕ
-whiteningAt words rate key k = cond (ltb k key) (getD words (rate + k) 0) (getD words (rate + (k - key)) 0)
-
--- How many bytes a phase holds: of the header at most a block, of the data as document 01's h says.
-abbrev pub bufferedCount : Params → Phase → ℕ → ℕ
-bufferedCount p Uninitialized held = 0
-bufferedCount p (Init d) held = 0
-bufferedCount p (Aad d) held = min held (p .rate)
-bufferedCount p (Data d) held = heldData p (Data d) held
-bufferedCount p (Final d) held = 0
-
--- The bytes that a point holds.
-unfoldable pub buffered : Params → Point → List ℕ
-buffered p at = take (bufferedCount p (at .phase) (at .held)) (at .buffer)
-
--- The bytes that a point holds and those that come: what blocks are taken of.
-unfoldable pub stream : Params → Point → List ℕ → List ℕ
-stream p at input = buffered p at ++ input
-
--- How many blocks go while `keep` bytes and one more stay.
-unfoldable pub blockCount : Params → ℕ → Point → List ℕ → ℕ
-blockCount p keep at input = ready (p .rate) keep (length (stream p at input))
-
--- The point, in a phase, after the blocks that go: `step` is what a block makes of the state.
-unfoldable pub streamed : Params → ℕ → (List ℕ → List ℕ → List ℕ) → Phase → Point → List ℕ → Point
-streamed p keep step phase at input =
-    record {
-      phase = phase;
-      words =
-          putState p (at .words)
-          (after (p .rate) step (blockCount p keep at input) (stateIn p (at .words)) (stream p at input));
-      buffer = inArray 64 (held (p .rate) keep (stream p at input));
-      held = length (held (p .rate) keep (stream p at input));
-    }
 
 -- Steps are added modulo 2^64.
 unfoldable pub addSteps : ℕ → Steps → Steps
@@ -108,22 +59,8 @@ refused e =
       initial = noMessage;
       pair = e .pair;
       mac = noMac;
-      steps = noSteps;
+      steps = refusedSteps (e .steps);
     }
-
--- The point after the start, before the initial header.
-unfoldable pub startPoint : Params → Direction → List ℕ → List ℕ → Point
-startPoint p d key nonce =
-    record { phase = Init d; words = inArray 16 (initialise p key nonce); buffer = zeros 64; held = 0 }
-
--- A header that is not empty is absorbed and leads to Aad.
-unfoldable pub absorbHeader : Params → Direction → Point → List ℕ → Point
-absorbHeader p d at [] = at
-absorbHeader p d at (x ∷ header) = streamed p 0 (absorbBlock p) (Aad d) at (x ∷ header)
-
--- The steps that this runs.
-unfoldable pub headerSteps : Params → Point → List ℕ → ℕ
-headerSteps p at header = blockCount p 0 at header * p .slim
 
 unfoldable pub started : SparkleEngine → Direction → List ℕ → List ℕ → List ℕ → SparkleEngine
 started e d key nonce header =
@@ -132,9 +69,9 @@ started e d key nonce header =
       variant = e .variant;
       current = absorbHeader p d (startPoint p d key nonce) header;
       initial = absorbHeader p d (startPoint p d key nonce) header;
-      pair = remember key nonce;
+      pair = remember (e .pair) key nonce;
       mac = noMac;
-      steps = initSteps ((p .big + headerSteps p (startPoint p d key nonce) header) % 2 ^ 64);
+      steps = initSteps (e .steps) ((p .big + headerSteps p (startPoint p d key nonce) header) % 2 ^ 64);
     }
 
 abbrev pub initBy : AeadInitResult → SparkleEngine → Direction → List ℕ → List ℕ → List ℕ → Started
@@ -144,7 +81,7 @@ initBy (StartErr x) e d key nonce header = record { answer = StartErr x; engine 
 unfoldable pub init : SparkleEngine → Direction → List ℕ → List ℕ → ℕ → List ℕ → Started
 init e d key nonce size header =
     let p = paramsOf (e .variant) in
-    initBy (startCheck p d (length key) (length nonce) size (repeats p (e .pair) key nonce)) e d key nonce header
+    initBy (startCheck (e .variant) d (length key) (length nonce) size (repeats p (e .pair) key nonce)) e d key nonce header
 
 -- ---- process_aad_bytes
 
@@ -170,34 +107,6 @@ processAadBytes e input = aadBy (aadCheck (e .current .phase) (length input)) e 
 
 -- ---- process_bytes
 
--- Where the data begins: without a header; and after one, whose last block is taken up.
-unfoldable pub withoutHeader : Direction → Point → Point
-withoutHeader d at = record { phase = Data d; words = at .words; buffer = zeros 64; held = 0 }
-
-unfoldable pub afterHeader : Params → Direction → Point → Point
-afterHeader p d at =
-    record {
-      phase = Data d;
-      words = putState p (at .words) (mixLast p 0 (stateIn p (at .words)) (take (min (at .held) (p .rate)) (at .buffer)));
-      buffer = zeros 64;
-      held = 0;
-    }
-
--- The point where the data begins, and the steps that this runs. A point where it has begun stays.
-abbrev pub beginPoint : Params → Phase → Point → Point
-beginPoint p Uninitialized at = at
-beginPoint p (Init d) at = withoutHeader d at
-beginPoint p (Aad d) at = afterHeader p d at
-beginPoint p (Data d) at = at
-beginPoint p (Final d) at = at
-
-abbrev pub beginSteps : Params → Phase → ℕ
-beginSteps p Uninitialized = 0
-beginSteps p (Init d) = 0
-beginSteps p (Aad d) = p .big
-beginSteps p (Data d) = 0
-beginSteps p (Final d) = 0
-
 -- The engine when the data begins.
 abbrev pub beginBy : Phase → SparkleEngine → SparkleEngine
 beginBy Uninitialized e = e
@@ -209,37 +118,12 @@ beginBy (Final d) e = e
 unfoldable pub beginData : SparkleEngine → SparkleEngine
 beginData e = beginBy (e .current .phase) e
 
--- What the state takes up of a message block: opening, what the block becomes; sealing, the block itself.
-unfoldable pub plainBy : Params → Bool → List ℕ → List ℕ → List ℕ
-plainBy p opens = cond opens (openingBlock p) (sealingBlock p)
-
-unfoldable pub plainOf : Params → Phase → List ℕ → List ℕ → List ℕ
-plainOf p phase = plainBy p (opening phase)
-
--- Data in phase Data: where it leads, the engine afterwards, and what is written.
-abbrev pub dataFrom : Params → Point → List ℕ → Progress
-dataFrom p at input =
-    let phase = at .phase in
-    record {
-      point = streamed p (keep p phase) (messageBlock p (plainOf p phase)) phase at input;
-      steps = blockCount p (keep p phase) at input * p .slim;
-    }
-
 unfoldable pub dataIn : SparkleEngine → List ℕ → SparkleEngine
 dataIn e input =
     let r = dataFrom (paramsOf (e .variant)) (e .current) input in atPoint e (r .point) (r .steps)
 
-unfoldable pub streamOut : Params → Point → List ℕ → List ℕ
-streamOut p at input =
-    given (p .rate) (messageBlock p (plainOf p (at .phase))) (crypt p) (blockCount p (keep p (at .phase)) at input)
-    (stateIn p (at .words)) (stream p at input)
-
 unfoldable pub dataOut : SparkleEngine → List ℕ → List ℕ
 dataOut e input = streamOut (paramsOf (e .variant)) (e .current) input
-
--- An output buffer that is written from its start.
-unfoldable pub written : List ℕ → List ℕ → List ℕ
-written bytes out = bytes ++ drop (length bytes) out
 
 abbrev pub dataBy : AeadResult → SparkleEngine → List ℕ → Done
 dataBy (Err x) e input = record { answer = Err x; engine = e }
@@ -259,13 +143,6 @@ unfoldable pub processBytesOut : SparkleEngine → List ℕ → List ℕ → Lis
 processBytesOut e input out = dataOutBy (dataAnswer e (length input) (length out)) e input out
 
 -- ---- do_final
-
--- The state after the last block, of which `plain` is taken up; as it was, where there is no block.
-unfoldable pub lastState : Params → List ℕ → List ℕ → List ℕ → List ℕ
-lastState p s block plain = ifEmpty block s (mixLast p 2 s plain)
-
-unfoldable pub lastSteps : Params → List ℕ → ℕ
-lastSteps p block = cond (ltb 0 (length block)) (p .big) 0
 
 -- What an end depends on: the variant, the point and the loaded pair. An engine with these alone.
 abbrev pub messageAt : SparkleVariant → Point → Pair → SparkleEngine
@@ -305,10 +182,6 @@ openTag e =
     let p = paramsOf (e .variant) in
     tagOf p (currentKey p (e .pair)) (lastState p (stateIn p (e .current .words)) (openBlock e) (openLast e))
 
--- The message has ended: words and buffer are wiped, the point after init stays.
-unfoldable pub finalPoint : Direction → Point
-finalPoint d = record { phase = Final d; words = zeros 16; buffer = zeros 64; held = 0 }
-
 unfoldable pub finalEngine : SparkleEngine → Direction → Mac → ℕ → SparkleEngine
 finalEngine e d mac n =
     record {
@@ -322,9 +195,6 @@ finalEngine e d mac n =
 
 unfoldable pub finish : SparkleEngine → AeadResult → Direction → Mac → ℕ → Done
 finish e answer d mac n = record { answer = answer; engine = finalEngine e d mac n }
-
-unfoldable pub readable : List ℕ → Mac
-readable tag = record { readable = true; bytes = inArray 32 tag }
 
 -- The tag and the steps of the end of a sealing, and of an opening by whether the received tag is the specification's.
 abbrev pub sealEnd : SparkleEngine → End
@@ -383,16 +253,6 @@ unfoldable pub doFinalOut : SparkleEngine → List ℕ → List ℕ
 doFinalOut e out = finalOutBy (finalAnswer e (length out)) e out
 
 -- ---- reset and mac
-
--- Sealing in Data or Final ends in Final; sealing in Init or Aad, and every opening phase, returns to the point after init.
-abbrev pub resetPoint : Phase → Point → Point
-resetPoint Uninitialized initial = noMessage
-resetPoint (Init d) initial = initial
-resetPoint (Aad d) initial = initial
-resetPoint (Data Encrypt) initial = finalPoint Encrypt
-resetPoint (Data Decrypt) initial = initial
-resetPoint (Final Encrypt) initial = finalPoint Encrypt
-resetPoint (Final Decrypt) initial = initial
 
 unfoldable pub reset : SparkleEngine → SparkleEngine
 reset e =

@@ -1,4 +1,5 @@
 -- The definitions that the engine's contracts cite, and the lists of calls made of them.
+pub mod Message
 pub mod Engine
 pub mod Calls
 pub mod Sheet

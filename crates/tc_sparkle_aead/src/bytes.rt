@@ -6,7 +6,7 @@ ghost use Prim.Native.Nat.{_+_, _*_, _/_, _%_, _≤_, _<_};
 ghost use lib.ListN.{length, take, drop, getD};
 ghost use lib.Seq.{paste};
 ghost use Rattle.schwaemm.specs.Bytes.{toWords, toBytes, same};
-ghost use Rattle.tc_sparkle_aead.specs.Engine.{inArray};
+ghost use Rattle.tc_sparkle_aead.specs.Message.{inArray};
 
 // A byte of the held ones followed by the input.
 fn byte_at(buffer: &[u8], held: usize, input: &[u8], at: usize) -> u8

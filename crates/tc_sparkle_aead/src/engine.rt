@@ -4,8 +4,9 @@ ghost use mathlib.Core.Path.{_≡_};
 ghost use Rattle.tc_aead_cipher.specs.Variant.{paramsOf};
 ghost use Prim.Native.Nat.{_≤_};
 ghost use lib.ListN.{length};
-ghost use Rattle.tc_sparkle_aead.specs.Engine.{noMac, newEngine, repeats, remember};
-ghost use Rattle.tc_sparkle_aead.specs.Calls.{addSteps, atPoint, refused, started, beginPoint, answered, finish};
+ghost use Rattle.tc_sparkle_aead.specs.Message.{noMac, beginPoint};
+ghost use Rattle.tc_sparkle_aead.specs.Engine.{newEngine, noPair, repeats, remember};
+ghost use Rattle.tc_sparkle_aead.specs.Calls.{addSteps, atPoint, refused, started, answered, finish};
 use super::bytes;
 use super::message;
 use super::message::End;
@@ -156,10 +157,10 @@ pub(crate) fn repeats(variant: SparkleVariant, pair: Pair, key: &[u8], nonce: &[
     if same_key { same_nonce } else { false }
 }
 
-// The pair once a key and a nonce are loaded.
+// What is remembered once a key and a nonce are loaded.
 fn remember(key: &[u8], nonce: &[u8]) -> Pair
     requires { ⌜ (length (now key) ≤ 32) × (length (now nonce) ≤ 32) ⌝ }
-    ensures { λ r. ⌜ r ≡ remember (now (key .entry)) (now (nonce .entry)) ⌝ }
+    ensures { λ r. ⌜ r ≡ remember noPair (now (key .entry)) (now (nonce .entry)) ⌝ }
 {
     Pair {
         loaded: true,

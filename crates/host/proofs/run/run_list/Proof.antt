@@ -2,7 +2,7 @@
 use mathlib.Core.Path.{sym, ap, _∙_}
 use Prim.Native.Nat.{ℕ, _-_}
 use lib.ListN.{length}
-use Rattle.tc_sparkle_aead.specs.Calls.{written}
+use Rattle.tc_sparkle_aead.specs.Message.{written}
 use Rattle.host.specs.declared.run.Stop.{Stop}
 use Rattle.host.specs.CallList.{Ran}
 use Rattle.host.proofs.RunLaws.{list-refused, list-empty, list-run}

@@ -1,6 +1,6 @@
 -- `empty` meets its contract: zeros, and no byte before them.
 use mathlib.Core.Path.{refl}
-use Rattle.tc_sparkle_aead.specs.Engine.{inArray, zeros}
+use Rattle.tc_sparkle_aead.specs.Message.{inArray, zeros}
 use Rattle.host.specs.Text.{cut}
 use Rattle.host.proofs.text.empty.Statement.{statement}
 use Rattle.host.proofs.text.empty.Tie as tie

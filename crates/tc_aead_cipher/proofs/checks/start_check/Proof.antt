@@ -10,7 +10,7 @@ use Rattle.tc_aead_cipher.proofs.checks.start_check.Tie as tie
 returns : tie.Need-returns
 returns c =
     let s = c .before .before .args in
-    rw (startCheck-key (paramsOf (s .variant)) (s .direction) (s .key) (s .nonce) (s .size) (s .repeats) (omega arith)) refl
+    rw (startCheck-key (s .variant) (s .direction) (s .key) (s .nonce) (s .size) (s .repeats) (omega arith)) refl
 
 returns-2 : tie.Need-returns-2
 returns-2 c = sym (startCheck-nonce _ _ _ _ _ _ (omega arith) (omega arith))
@@ -21,7 +21,7 @@ returns-3 c = sym (startCheck-size _ _ _ _ _ _ (omega arith) (omega arith) (omeg
 returns-4 : tie.Need-returns-4
 returns-4 c =
     let s = c .before .before .before .before .before .before .before .before .args in
-    sym (startCheck-opening (paramsOf (s .variant)) (s .direction) (s .key) (s .nonce) (s .size) (s .repeats) (omega arith)
+    sym (startCheck-opening (s .variant) (s .direction) (s .key) (s .nonce) (s .size) (s .repeats) (omega arith)
     (omega arith) (omega arith) (sym (c .before .opens .ensures) ∙ c .if4 .taken))
 
 returns-5 : tie.Need-returns-5

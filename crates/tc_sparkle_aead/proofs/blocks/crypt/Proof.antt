@@ -11,7 +11,7 @@ use Rattle.sparkle.specs.Sparkle.{xors}
 use Rattle.sparkle.proofs.Lengths.{length-xors}
 use Rattle.schwaemm.proofs.Xors.{xors-at}
 use Rattle.tc_aead_cipher.specs.Variant.{paramsOf}
-use Rattle.tc_sparkle_aead.specs.Engine.{zeros, inArray}
+use Rattle.tc_sparkle_aead.specs.Message.{zeros, inArray}
 use Rattle.tc_aead_cipher.proofs.VariantLaws.{sizes, small}
 use Rattle.tc_sparkle_aead.proofs.Fill.{laid, fill-turn, fill-end}
 use Rattle.tc_sparkle_aead.proofs.MixLaws.{crypt-in}

@@ -5,7 +5,7 @@ use mathlib.Core.List.{_++_}
 use native.Mathlib.Omega.{arith}
 use lib.ListN.{length, take}
 use Rattle.tc_aead_cipher.specs.Variant.{paramsOf}
-use Rattle.tc_sparkle_aead.specs.Calls.{plainBy}
+use Rattle.tc_sparkle_aead.specs.Message.{plainBy}
 use Rattle.tc_aead_cipher.proofs.VariantLaws.{sizes, small}
 use Rattle.tc_sparkle_aead.proofs.BlockRuns.{CryptRun, length-stream, run-end, run-fits, crypt-start, crypt-end, length-output, crypt-turn}
 use Rattle.tc_sparkle_aead.proofs.blocks.crypt_blocks.Statement.{statement}

@@ -1,7 +1,7 @@
 -- `feedback` is word k of the feedback, by whether k is in its first half.
 use borrow.Author.Needs.{needs}
 use borrow.Author.Tests.{lt-ltb, le-ltb}
-use Rattle.tc_sparkle_aead.specs.Calls.{feedbackAt}
+use Rattle.tc_sparkle_aead.specs.Message.{feedbackAt}
 use Rattle.tc_sparkle_aead.proofs.blocks.feedback.Statement.{statement}
 use Rattle.tc_sparkle_aead.proofs.blocks.feedback.Tie as tie
 

@@ -4,7 +4,7 @@ use Prim.Native.Nat.{_+_, _≤_, _-_}
 use native.Mathlib.Omega.{arith}
 use lib.ListN.{length}
 use Rattle.tc_aead_cipher.specs.Variant.{paramsOf}
-use Rattle.tc_sparkle_aead.specs.Engine.{zeros, inArray}
+use Rattle.tc_sparkle_aead.specs.Message.{zeros, inArray}
 use Rattle.tc_aead_cipher.proofs.VariantLaws.{sizes, small}
 use Rattle.tc_sparkle_aead.proofs.Fill.{laid, fill-turn, fill-end}
 use Rattle.tc_sparkle_aead.proofs.TagLaws.{tagBytes, array-bytes, length-tagBytes, tagBytes-at, tagOf-bytes}

@@ -5,7 +5,7 @@ use lib.ListN.{take}
 use lib.Seq.{take-take}
 use Rattle.schwaemm.specs.Schwaemm.{mix}
 use Rattle.tc_aead_cipher.specs.Variant.{paramsOf}
-use Rattle.tc_sparkle_aead.specs.Calls.{stateIn, putState}
+use Rattle.tc_sparkle_aead.specs.Message.{stateIn, putState}
 use Rattle.tc_aead_cipher.proofs.VariantLaws.{small}
 use borrow.Author.Needs.{needs}
 use Rattle.tc_sparkle_aead.proofs.blocks.mix.Statement.{statement}

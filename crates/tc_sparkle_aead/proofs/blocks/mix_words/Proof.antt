@@ -6,7 +6,7 @@ use mathlib.Core.List.{List}
 use Rattle.sparkle.specs.Sparkle.{sparkleIn}
 use Rattle.schwaemm.specs.Schwaemm.{Params, permute}
 use Rattle.tc_aead_cipher.specs.Variant.{paramsOf}
-use Rattle.tc_sparkle_aead.specs.Calls.{stateIn, putState}
+use Rattle.tc_sparkle_aead.specs.Message.{stateIn, putState}
 use Rattle.tc_sparkle_aead.proofs.blocks.mix_words.Statement.{statement}
 use Rattle.tc_sparkle_aead.proofs.blocks.mix_words.Tie as tie
 

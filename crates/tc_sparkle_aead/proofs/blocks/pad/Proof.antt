@@ -6,7 +6,7 @@ use lib.Seq.{length-take-le}
 use borrow.Author.Needs.{needs}
 use Rattle.schwaemm.proofs.States.{padded-full}
 use Rattle.tc_aead_cipher.specs.Variant.{paramsOf}
-use Rattle.tc_sparkle_aead.specs.Engine.{inArray}
+use Rattle.tc_sparkle_aead.specs.Message.{inArray}
 use Rattle.tc_aead_cipher.proofs.VariantLaws.{sizes, small}
 use Rattle.tc_sparkle_aead.proofs.LastBlock.{set-padded}
 use Rattle.tc_sparkle_aead.proofs.blocks.pad.Statement.{statement}

@@ -2,7 +2,7 @@
 use borrow.Author.Needs.{needs}
 use Rattle.sparkle.specs.Sparkle.{sparkleIn}
 use Rattle.schwaemm.specs.Schwaemm.{permute}
-use Rattle.tc_sparkle_aead.specs.Calls.{stateIn, putState}
+use Rattle.tc_sparkle_aead.specs.Message.{stateIn, putState}
 use Rattle.tc_sparkle_aead.proofs.blocks.permute.Statement.{statement}
 use Rattle.tc_sparkle_aead.proofs.blocks.permute.Tie as tie
 

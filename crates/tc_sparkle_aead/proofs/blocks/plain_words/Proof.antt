@@ -1,6 +1,6 @@
 -- `plain_words` is the block, or where a packet is opened what the block becomes.
 use Rattle.schwaemm.specs.Schwaemm.{sealing, opening}
-use Rattle.tc_sparkle_aead.specs.Calls.{plainBy}
+use Rattle.tc_sparkle_aead.specs.Message.{plainBy}
 use Rattle.tc_sparkle_aead.proofs.blocks.plain_words.Statement.{statement}
 use Rattle.tc_sparkle_aead.proofs.blocks.plain_words.Tie as tie
 

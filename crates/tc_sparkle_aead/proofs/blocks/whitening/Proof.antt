@@ -1,7 +1,7 @@
 -- `whitening` is word k of the whitening, by whether k is below the capacity's words.
 use borrow.Author.Needs.{needs}
 use borrow.Author.Tests.{lt-ltb, le-ltb}
-use Rattle.tc_sparkle_aead.specs.Calls.{whiteningAt}
+use Rattle.tc_sparkle_aead.specs.Message.{whiteningAt}
 use Rattle.tc_sparkle_aead.proofs.blocks.whitening.Statement.{statement}
 use Rattle.tc_sparkle_aead.proofs.blocks.whitening.Tie as tie
 

@@ -9,7 +9,7 @@ use Rattle.schwaemm.specs.Bytes.{toBytes}
 use Rattle.schwaemm.specs.Schwaemm.{Params, Sizes}
 use Rattle.schwaemm.proofs.ByteWords.{length-toBytes, toWords-toBytes}
 use Rattle.tc_aead_cipher.specs.Variant.{paramsOf}
-use Rattle.tc_sparkle_aead.specs.Calls.{stateIn}
+use Rattle.tc_sparkle_aead.specs.Message.{stateIn}
 use Rattle.tc_aead_cipher.proofs.VariantLaws.{sizes, small}
 use Rattle.tc_sparkle_aead.proofs.Fill.{laid}
 use Rattle.tc_sparkle_aead.proofs.MixLaws.{xorBlock, xorBlock-turn, mix-end}

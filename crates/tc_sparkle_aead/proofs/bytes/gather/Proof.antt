@@ -6,7 +6,7 @@ use Prim.Native.Nat.{ℕ, _≤_, _-_}
 use native.Mathlib.Omega.{arith}
 use lib.ListN.{length, take, drop, length-take, length-drop, length-append}
 use lib.Seq.{getD-take, getD-drop}
-use Rattle.tc_sparkle_aead.specs.Engine.{zeros, inArray}
+use Rattle.tc_sparkle_aead.specs.Message.{zeros, inArray}
 use Rattle.tc_sparkle_aead.proofs.Fill.{laid, fill-turn, fill-end}
 use Rattle.tc_sparkle_aead.proofs.BlockRuns.{past-held}
 use Rattle.tc_sparkle_aead.proofs.bytes.gather.Statement.{statement}

@@ -3,7 +3,7 @@ use mathlib.Core.Path.{_≡_, refl}
 use Prim.Native.Nat.{_≤_, _-_}
 use native.Mathlib.Omega.{arith}
 use lib.ListN.{length}
-use Rattle.tc_sparkle_aead.specs.Engine.{zeros}
+use Rattle.tc_sparkle_aead.specs.Message.{zeros}
 use Rattle.tc_sparkle_aead.proofs.Fill.{laid, fill-turn, fill-end}
 use Rattle.tc_sparkle_aead.proofs.bytes.in_array.Statement.{statement}
 use Rattle.tc_sparkle_aead.proofs.bytes.in_array.Tie as tie

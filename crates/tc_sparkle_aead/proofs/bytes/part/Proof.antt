@@ -4,7 +4,7 @@ use Prim.Native.Nat.{_≤_, _-_}
 use native.Mathlib.Omega.{arith}
 use lib.ListN.{length, take, drop, length-take, length-drop}
 use lib.Seq.{getD-take, getD-drop}
-use Rattle.tc_sparkle_aead.specs.Engine.{zeros}
+use Rattle.tc_sparkle_aead.specs.Message.{zeros}
 use Rattle.tc_sparkle_aead.proofs.Fill.{laid, fill-turn, fill-end}
 use Rattle.tc_sparkle_aead.proofs.bytes.part.Statement.{statement}
 use Rattle.tc_sparkle_aead.proofs.bytes.part.Tie as tie

@@ -7,7 +7,7 @@ use lib.Seq.{length-take-le}
 use Rattle.schwaemm.specs.Bytes.{toWords, toBytes}
 use Rattle.sparkle.proofs.Below.{below-of, below-take, below-drop}
 use Rattle.schwaemm.proofs.ByteWords.{toBytes-toWords}
-use Rattle.tc_sparkle_aead.specs.Engine.{zeros}
+use Rattle.tc_sparkle_aead.specs.Message.{zeros}
 use Rattle.tc_sparkle_aead.proofs.Fill.{laid, fill-turn, laid-over, length-zeros}
 use Rattle.tc_sparkle_aead.proofs.WordLaws.{length-eight, eight-at}
 use Rattle.tc_sparkle_aead.proofs.bytes.words_in.Statement.{statement}

@@ -1,6 +1,7 @@
 -- `new` meets its contract: an empty point twice, no tag, and the rest by computation.
 use mathlib.Core.Path.{refl}
-use Rattle.tc_sparkle_aead.specs.Engine.{zeros, noPair, noSteps, newEngine}
+use Rattle.tc_sparkle_aead.specs.Message.{zeros}
+use Rattle.tc_sparkle_aead.specs.Engine.{noPair, noSteps, newEngine}
 use borrow.Author.Needs.{needs}
 use Rattle.tc_sparkle_aead.proofs.engine.new.Statement.{statement}
 use Rattle.tc_sparkle_aead.proofs.engine.new.Tie as tie

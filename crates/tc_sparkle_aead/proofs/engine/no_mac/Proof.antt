@@ -1,6 +1,6 @@
 -- `no_mac` is no readable tag, by computation.
 use mathlib.Core.Path.{refl}
-use Rattle.tc_sparkle_aead.specs.Engine.{zeros, noMac}
+use Rattle.tc_sparkle_aead.specs.Message.{zeros, noMac}
 use Rattle.tc_sparkle_aead.proofs.engine.no_mac.Statement.{statement}
 use Rattle.tc_sparkle_aead.proofs.engine.no_mac.Tie as tie
 

@@ -1,13 +1,13 @@
 -- `refused` ends the message, and keeps variant and pair.
 use mathlib.Core.Path.{refl}
-use Rattle.tc_sparkle_aead.specs.Engine.{noSteps}
+use Rattle.tc_sparkle_aead.specs.Engine.{noSteps, refusedSteps}
 use Rattle.tc_sparkle_aead.specs.Calls.{refused}
 use borrow.Author.Needs.{needs}
 use Rattle.tc_sparkle_aead.proofs.engine.refused.Statement.{statement}
 use Rattle.tc_sparkle_aead.proofs.engine.refused.Tie as tie
 
 returns : tie.Need-returns
-unfolding refused noSteps
+unfolding refused refusedSteps noSteps
 returns c = rw (c .no-mac .ensures, c .before .no-message .ensures) refl
 
 pub refused-spec : {M : Type 1} → statement M

@@ -1,8 +1,7 @@
 -- `after_header` takes up the last block of the header and goes to Data.
 use mathlib.Core.Path.{refl}
 use borrow.Author.Needs.{needs}
-use Rattle.tc_sparkle_aead.specs.Engine.{zeros}
-use Rattle.tc_sparkle_aead.specs.Calls.{afterHeader}
+use Rattle.tc_sparkle_aead.specs.Message.{zeros, afterHeader}
 use Rattle.tc_sparkle_aead.proofs.message.after_header.Statement.{statement}
 use Rattle.tc_sparkle_aead.proofs.message.after_header.Tie as tie
 

@@ -7,7 +7,7 @@ use borrow.Author.Needs.{needs}
 use Rattle.tc_aead_cipher.proofs.VariantLaws.{sizes, small}
 use Rattle.tc_sparkle_aead.proofs.DataLaws.{is-count}
 use Rattle.tc_sparkle_aead.proofs.HeaderLaws.{steps-fit}
-use Rattle.tc_sparkle_aead.specs.Calls.{blockCount}
+use Rattle.tc_sparkle_aead.specs.Message.{blockCount}
 use Rattle.tc_aead_cipher.specs.Variant.{paramsOf}
 use Rattle.tc_aead_cipher.specs.Checks.{keep}
 use Rattle.tc_sparkle_aead.proofs.CallLaws.{bufferedCount-bound, gone-bound}

@@ -1,7 +1,6 @@
 -- `final_point` is the point of a message that has ended, by computation.
 use mathlib.Core.Path.{refl}
-use Rattle.tc_sparkle_aead.specs.Calls.{finalPoint}
-use Rattle.tc_sparkle_aead.specs.Engine.{zeros}
+use Rattle.tc_sparkle_aead.specs.Message.{finalPoint, zeros}
 use Rattle.tc_sparkle_aead.proofs.message.final_point.Statement.{statement}
 use Rattle.tc_sparkle_aead.proofs.message.final_point.Tie as tie
 

@@ -5,7 +5,7 @@ use native.Mathlib.Omega.{arith}
 use lib.ListN.{length}
 use Rattle.schwaemm.specs.Schwaemm.{absorbBlock}
 use Rattle.tc_aead_cipher.specs.Variant.{paramsOf}
-use Rattle.tc_sparkle_aead.specs.Calls.{headerSteps}
+use Rattle.tc_sparkle_aead.specs.Message.{headerSteps}
 use Rattle.tc_aead_cipher.proofs.VariantLaws.{sizes, small}
 use Rattle.tc_sparkle_aead.proofs.CallLaws.{bufferedCount-bound, blockCount-is, gone-bound}
 use Rattle.tc_sparkle_aead.proofs.HeaderLaws.{steps-fit}

@@ -1,6 +1,6 @@
 -- `no_message` meets its contract, by computation.
 use mathlib.Core.Path.{refl}
-use Rattle.tc_sparkle_aead.specs.Engine.{zeros, noMessage}
+use Rattle.tc_sparkle_aead.specs.Message.{zeros, noMessage}
 use Rattle.tc_sparkle_aead.proofs.message.no_message.Statement.{statement}
 use Rattle.tc_sparkle_aead.proofs.message.no_message.Tie as tie
 

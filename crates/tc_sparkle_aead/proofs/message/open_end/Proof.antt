@@ -7,7 +7,7 @@ use borrow.Author.Needs.{needs}
 use lib.ListN.{length, take, drop}
 use lib.Seq.{take-take}
 use Rattle.schwaemm.specs.Bytes.{same}
-use Rattle.tc_sparkle_aead.specs.Engine.{zeros}
+use Rattle.tc_sparkle_aead.specs.Message.{zeros}
 use Rattle.tc_sparkle_aead.specs.Calls.{messageAt}
 use Rattle.tc_aead_cipher.proofs.VariantLaws.{small}
 use Rattle.tc_sparkle_aead.proofs.EndLaws.{Opening, opening-is, opened, opened-out, unopened, unopened-out}

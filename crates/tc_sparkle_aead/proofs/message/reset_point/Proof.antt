@@ -2,7 +2,7 @@
 use mathlib.Core.Path.{sym, ap, _∙_}
 use borrow.Author.Needs.{needs}
 use Rattle.tc_aead_cipher.specs.declared.phase.Phase.{Phase}
-use Rattle.tc_sparkle_aead.specs.Calls.{resetPoint}
+use Rattle.tc_sparkle_aead.specs.Message.{resetPoint}
 use Rattle.tc_sparkle_aead.proofs.ResetLaws.{reset-opening, reset-sealing}
 use Rattle.tc_sparkle_aead.proofs.message.reset_point.Statement.{statement}
 use Rattle.tc_sparkle_aead.proofs.message.reset_point.Tie as tie

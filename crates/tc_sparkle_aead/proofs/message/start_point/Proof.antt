@@ -1,7 +1,6 @@
 -- `start_point` is the initial state in the array of words, with nothing held.
 use mathlib.Core.Path.{refl}
-use Rattle.tc_sparkle_aead.specs.Engine.{zeros}
-use Rattle.tc_sparkle_aead.specs.Calls.{startPoint}
+use Rattle.tc_sparkle_aead.specs.Message.{zeros, startPoint}
 use borrow.Author.Needs.{needs}
 use Rattle.tc_sparkle_aead.proofs.message.start_point.Statement.{statement}
 use Rattle.tc_sparkle_aead.proofs.message.start_point.Tie as tie

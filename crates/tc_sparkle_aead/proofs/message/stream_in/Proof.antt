@@ -10,7 +10,7 @@ use Rattle.tc_sparkle_aead.proofs.CallLaws.{bufferedCount-bound, stream
 use Rattle.tc_sparkle_aead.proofs.StateLaws.{state-length}
 use Rattle.tc_sparkle_aead.proofs.BlockRuns.{length-stream}
 use Rattle.tc_sparkle_aead.proofs.DataLaws.{count-is, written-at}
-use Rattle.tc_sparkle_aead.specs.Calls.{plainOf}
+use Rattle.tc_sparkle_aead.specs.Message.{plainOf}
 use Rattle.tc_aead_cipher.specs.Checks.{keep}
 use Rattle.tc_aead_cipher.proofs.VariantLaws.{sizes, small, keep-bound}
 use Rattle.schwaemm.specs.Schwaemm.{messageBlock}

@@ -1,7 +1,6 @@
 -- `without_header` wipes the buffer and goes to Data, by computation.
 use mathlib.Core.Path.{refl}
-use Rattle.tc_sparkle_aead.specs.Calls.{withoutHeader}
-use Rattle.tc_sparkle_aead.specs.Engine.{zeros}
+use Rattle.tc_sparkle_aead.specs.Message.{withoutHeader, zeros}
 use Rattle.tc_sparkle_aead.proofs.message.without_header.Statement.{statement}
 use Rattle.tc_sparkle_aead.proofs.message.without_header.Tie as tie
 

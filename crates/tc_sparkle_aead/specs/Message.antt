@@ -1,0 +1,172 @@
+-- A message and its points: what a start, a header, the data, an end and a reset make of one (document 01, "Down to the
+-- block"). Nothing here knows the engine.
+use Prim.Native.Nat.{ℕ, _+_, _-_, _*_, _/_, min}
+use mathlib.Core.Bool.{Bool, true, false, cond}
+use mathlib.Core.List.{List, _++_, [], _∷_}
+use lib.ListN.{take, replicate, length, drop, getD}
+use Rattle.schwaemm.specs.Schwaemm.{Params, crypt, mixLast, initialise, absorbBlock, sealing as sealingBlock, opening as openingBlock, messageBlock}
+use Rattle.tc_aead_cipher.specs.declared.phase.Phase.the-variants.{Uninitialized, Init, Aad, Data, Final}
+use Rattle.tc_sparkle_aead.specs.declared.message.Point.{Point}
+use Rattle.tc_sparkle_aead.specs.declared.engine.Mac.{Mac}
+use lib.Dec.{ltb}
+use lib.Bits.{bitXor}
+use Rattle.schwaemm.specs.Bytes.{ifEmpty}
+use Rattle.schwaemm.specs.Blocks.{ready, after, given, held}
+use Rattle.tc_aead_cipher.specs.declared.phase.Direction.{Direction}
+use Rattle.tc_aead_cipher.specs.declared.phase.Direction.the-variants.{Encrypt, Decrypt}
+use Rattle.tc_aead_cipher.specs.declared.phase.Phase.{Phase}
+use Rattle.tc_sparkle_aead.specs.declared.message.Progress.{Progress}
+use Rattle.tc_aead_cipher.specs.Checks.{opening, keep, heldData}
+
+-- n zeros, and a list in an array of n: zeros behind it, and cut where it is longer.
+unfoldable pub zeros : ℕ → List ℕ
+zeros n = replicate n 0
+
+unfoldable pub inArray : ℕ → List ℕ → List ℕ
+inArray n l = take n (l ++ zeros n)
+
+-- No message: Uninitialized, everything wiped.
+unfoldable pub noMessage : Point
+noMessage = record { phase = Uninitialized; words = zeros 16; buffer = zeros 64; held = 0 }
+
+-- No readable tag.
+unfoldable pub noMac : Mac
+noMac = record { readable = false; bytes = zeros 32 }
+
+-- The state in the engine's array of words, and the array with another state.
+unfoldable pub stateIn : Params → List ℕ → List ℕ
+stateIn p words = take ((p .rate + p .key) / 4) words
+
+unfoldable pub putState : Params → List ℕ → List ℕ → List ℕ
+putState p words s = s ++ drop ((p .rate + p .key) / 4) words
+
+-- Word k of the feedback and of the whitening, in the engine's array of words; half, rate and key are in words.
+unfoldable pub feedbackAt : List ℕ → ℕ → ℕ → ℕ
+feedbackAt words half k =
+    cond (ltb k half) (getD words (k + half) 0) (bitXor (getD words k 0) (getD words (k - half) 0))
+
+unfoldable pub whiteningAt : List ℕ → ℕ → ℕ → ℕ → ℕ
+whiteningAt words rate key k = cond (ltb k key) (getD words (rate + k) 0) (getD words (rate + (k - key)) 0)
+
+-- How many bytes a phase holds: of the header at most a block, of the data as document 01's h says.
+abbrev pub bufferedCount : Params → Phase → ℕ → ℕ
+bufferedCount p Uninitialized held = 0
+bufferedCount p (Init d) held = 0
+bufferedCount p (Aad d) held = min held (p .rate)
+bufferedCount p (Data d) held = heldData p (Data d) held
+bufferedCount p (Final d) held = 0
+
+-- The bytes that a point holds.
+unfoldable pub buffered : Params → Point → List ℕ
+buffered p at = take (bufferedCount p (at .phase) (at .held)) (at .buffer)
+
+-- The bytes that a point holds and those that come: what blocks are taken of.
+unfoldable pub stream : Params → Point → List ℕ → List ℕ
+stream p at input = buffered p at ++ input
+
+-- How many blocks go while `keep` bytes and one more stay.
+unfoldable pub blockCount : Params → ℕ → Point → List ℕ → ℕ
+blockCount p keep at input = ready (p .rate) keep (length (stream p at input))
+
+-- The point, in a phase, after the blocks that go: `step` is what a block makes of the state.
+unfoldable pub streamed : Params → ℕ → (List ℕ → List ℕ → List ℕ) → Phase → Point → List ℕ → Point
+streamed p keep step phase at input =
+    record {
+      phase = phase;
+      words =
+          putState p (at .words)
+          (after (p .rate) step (blockCount p keep at input) (stateIn p (at .words)) (stream p at input));
+      buffer = inArray 64 (held (p .rate) keep (stream p at input));
+      held = length (held (p .rate) keep (stream p at input));
+    }
+
+-- The point after the start, before the initial header.
+unfoldable pub startPoint : Params → Direction → List ℕ → List ℕ → Point
+startPoint p d key nonce =
+    record { phase = Init d; words = inArray 16 (initialise p key nonce); buffer = zeros 64; held = 0 }
+
+-- A header that is not empty is absorbed and leads to Aad.
+unfoldable pub absorbHeader : Params → Direction → Point → List ℕ → Point
+absorbHeader p d at [] = at
+absorbHeader p d at (x ∷ header) = streamed p 0 (absorbBlock p) (Aad d) at (x ∷ header)
+
+-- The steps that this runs.
+unfoldable pub headerSteps : Params → Point → List ℕ → ℕ
+headerSteps p at header = blockCount p 0 at header * p .slim
+
+-- Where the data begins: without a header; and after one, whose last block is taken up.
+unfoldable pub withoutHeader : Direction → Point → Point
+withoutHeader d at = record { phase = Data d; words = at .words; buffer = zeros 64; held = 0 }
+
+unfoldable pub afterHeader : Params → Direction → Point → Point
+afterHeader p d at =
+    record {
+      phase = Data d;
+      words = putState p (at .words) (mixLast p 0 (stateIn p (at .words)) (take (min (at .held) (p .rate)) (at .buffer)));
+      buffer = zeros 64;
+      held = 0;
+    }
+
+-- The point where the data begins, and the steps that this runs. A point where it has begun stays.
+abbrev pub beginPoint : Params → Phase → Point → Point
+beginPoint p Uninitialized at = at
+beginPoint p (Init d) at = withoutHeader d at
+beginPoint p (Aad d) at = afterHeader p d at
+beginPoint p (Data d) at = at
+beginPoint p (Final d) at = at
+
+abbrev pub beginSteps : Params → Phase → ℕ
+beginSteps p Uninitialized = 0
+beginSteps p (Init d) = 0
+beginSteps p (Aad d) = p .big
+beginSteps p (Data d) = 0
+beginSteps p (Final d) = 0
+
+-- What the state takes up of a message block: opening, what the block becomes; sealing, the block itself.
+unfoldable pub plainBy : Params → Bool → List ℕ → List ℕ → List ℕ
+plainBy p opens = cond opens (openingBlock p) (sealingBlock p)
+
+unfoldable pub plainOf : Params → Phase → List ℕ → List ℕ → List ℕ
+plainOf p phase = plainBy p (opening phase)
+
+-- Data in phase Data: where it leads, the engine afterwards, and what is written.
+abbrev pub dataFrom : Params → Point → List ℕ → Progress
+dataFrom p at input =
+    let phase = at .phase in
+    record {
+      point = streamed p (keep p phase) (messageBlock p (plainOf p phase)) phase at input;
+      steps = blockCount p (keep p phase) at input * p .slim;
+    }
+
+unfoldable pub streamOut : Params → Point → List ℕ → List ℕ
+streamOut p at input =
+    given (p .rate) (messageBlock p (plainOf p (at .phase))) (crypt p) (blockCount p (keep p (at .phase)) at input)
+    (stateIn p (at .words)) (stream p at input)
+
+-- An output buffer that is written from its start.
+unfoldable pub written : List ℕ → List ℕ → List ℕ
+written bytes out = bytes ++ drop (length bytes) out
+
+-- The state after the last block, of which `plain` is taken up; as it was, where there is no block.
+unfoldable pub lastState : Params → List ℕ → List ℕ → List ℕ → List ℕ
+lastState p s block plain = ifEmpty block s (mixLast p 2 s plain)
+
+unfoldable pub lastSteps : Params → List ℕ → ℕ
+lastSteps p block = cond (ltb 0 (length block)) (p .big) 0
+
+-- The message has ended: words and buffer are wiped, the point after init stays.
+unfoldable pub finalPoint : Direction → Point
+finalPoint d = record { phase = Final d; words = zeros 16; buffer = zeros 64; held = 0 }
+
+unfoldable pub readable : List ℕ → Mac
+readable tag = record { readable = true; bytes = inArray 32 tag }
+
+-- Sealing in Data or Final ends in Final; sealing in Init or Aad, and every opening phase, returns to the point after init.
+abbrev pub resetPoint : Phase → Point → Point
+resetPoint Uninitialized initial = noMessage
+resetPoint (Init d) initial = initial
+resetPoint (Aad d) initial = initial
+resetPoint (Data Encrypt) initial = finalPoint Encrypt
+resetPoint (Data Decrypt) initial = initial
+resetPoint (Final Encrypt) initial = finalPoint Encrypt
+resetPoint (Final Decrypt) initial = initial
