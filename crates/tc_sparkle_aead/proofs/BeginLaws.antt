@@ -15,11 +15,13 @@ use Rattle.tc_aead_cipher.specs.declared.phase.Phase.the-variants.{Uninitialize
 use Rattle.tc_sparkle_aead.specs.declared.message.Point.{Point}
 use Rattle.tc_sparkle_aead.specs.declared.engine.Mac.{Mac}
 use Rattle.tc_sparkle_aead.specs.declared.engine.Steps.{Steps}
+use Rattle.tc_aead_cipher.specs.declared.variant.SparkleVariant.{SparkleVariant}
+use Rattle.tc_sparkle_aead.specs.declared.engine.Pair.{Pair}
 use Rattle.tc_sparkle_aead.specs.declared.engine.SparkleEngine.{SparkleEngine}
 use Rattle.tc_aead_cipher.specs.Variant.{paramsOf}
 use Rattle.tc_aead_cipher.specs.Checks.{heldData}
 use Rattle.tc_sparkle_aead.specs.Message.{bufferedCount, withoutHeader, afterHeader, beginPoint, beginSteps, finalPoint}
-use Rattle.tc_sparkle_aead.specs.Calls.{addSteps, atPoint, beginBy, messageAt, finalEngine}
+use Rattle.tc_sparkle_aead.specs.Calls.{addSteps, atPoint, beginBy, finalEngine}
 use Rattle.tc_aead_cipher.proofs.phase.Phase.{the-type}
 
 -- ---- The point, by the phase.
@@ -112,7 +114,7 @@ module _ (e : SparkleEngine) where
         steps = y .steps;
       }) (begin-at phase x (finalPoint d) n)
 
-  -- its point, its variant, and both with its pair
+  -- its point, its variant, and whatever is made of both and its pair
   pub begin-current : (phase : Phase) → beginBy phase e .current ≡ beginPoint (paramsOf (e .variant)) phase (e .current)
   unfolding atPoint
   begin-current Uninitialized = refl
@@ -129,12 +131,12 @@ module _ (e : SparkleEngine) where
   begin-variant (Data d) = refl
   begin-variant (Final d) = refl
 
-  pub begin-message : (phase : Phase)
-      → messageAt (beginBy phase e .variant) (beginBy phase e .current) (beginBy phase e .pair)
-      ≡ messageAt (e .variant) (beginPoint (paramsOf (e .variant)) phase (e .current)) (e .pair)
+  pub begin-parts : {A : Type 0} (f : SparkleVariant → Pair → Point → A) (phase : Phase)
+      → f (beginBy phase e .variant) (beginBy phase e .pair) (beginBy phase e .current)
+      ≡ f (e .variant) (e .pair) (beginPoint (paramsOf (e .variant)) phase (e .current))
   unfolding atPoint
-  begin-message Uninitialized = refl
-  begin-message (Init d) = refl
-  begin-message (Aad d) = refl
-  begin-message (Data d) = refl
-  begin-message (Final d) = refl
+  begin-parts f Uninitialized = refl
+  begin-parts f (Init d) = refl
+  begin-parts f (Aad d) = refl
+  begin-parts f (Data d) = refl
+  begin-parts f (Final d) = refl

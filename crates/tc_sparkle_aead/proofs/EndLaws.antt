@@ -1,5 +1,5 @@
 -- The end of a message, over plain variables: the last block, the tag and what is written, as the code computes them
--- piece by piece, are what the definitions of `specs.Calls` say.
+-- piece by piece, are what the definitions of `specs.Message` say.
 use mathlib.Core.Path.{_≡_, refl, sym, ap, ap₂, _∙_}
 use mathlib.Core.Bool.{Bool, true, false, cond}
 use mathlib.Core.List.{List, [], _∷_, _++_}
@@ -13,13 +13,11 @@ use Rattle.schwaemm.specs.Schwaemm.{Params, Sizes, crypt, mixLast, tagOf}
 use Rattle.schwaemm.proofs.States.{stateLength, length-crypt, length-mixLast}
 use Rattle.schwaemm.proofs.RoundTrip.{length-tagOf}
 use Rattle.tc_sparkle_aead.specs.declared.message.Point.{Point}
-use Rattle.tc_sparkle_aead.specs.declared.engine.SparkleEngine.{SparkleEngine}
+use Rattle.tc_aead_cipher.specs.declared.variant.SparkleVariant.{SparkleVariant}
 use Rattle.tc_sparkle_aead.specs.declared.message.End.{End}
 use Rattle.tc_sparkle_aead.specs.declared.engine.Mac.{Mac}
 use Rattle.tc_aead_cipher.specs.Variant.{paramsOf}
-use Rattle.tc_sparkle_aead.specs.Message.{zeros, inArray, noMac, stateIn, putState, bufferedCount, buffered, lastState, lastSteps, written, readable}
-use Rattle.tc_sparkle_aead.specs.Engine.{currentKey}
-use Rattle.tc_sparkle_aead.specs.Calls.{sealTag, sealLast, openBlock, receivedTag, openLast, openTag, sealEnd, openEnd, openEndOut}
+use Rattle.tc_sparkle_aead.specs.Message.{zeros, inArray, noMac, stateIn, putState, bufferedCount, buffered, lastState, lastSteps, written, readable, sealTag, sealLast, openBlock, receivedTag, openLast, openTag, sealEnd, openEnd, openOut}
 use Rattle.tc_aead_cipher.proofs.VariantLaws.{Small, sizes, small}
 use Rattle.tc_sparkle_aead.proofs.Fill.{length-zeros}
 use Rattle.tc_sparkle_aead.proofs.StateLaws.{all-inArray, state-put, put-state, length-stateIn}
@@ -123,120 +121,120 @@ module _ (p : Params) (at : Point) (held : ℕ) (eh : held ≡ bufferedCount p (
 
 -- ---- The end of a sealing.
 
-module _ (e : SparkleEngine) (hw : length (e .current .words) ≡ 16) (hb : length (e .current .buffer) ≡ 64)
-    (hk : length (e .pair .key) ≡ 32) (held : ℕ)
-    (eh : held ≡ bufferedCount (paramsOf (e .variant)) (e .current .phase) (e .current .held)) (words tag : List ℕ)
+module _ (v : SparkleVariant) (at : Point) (key : List ℕ) (hw : length (at .words) ≡ 16) (hb : length (at .buffer) ≡ 64)
+    (hk : length key ≡ 32) (held : ℕ)
+    (eh : held ≡ bufferedCount (paramsOf v) (at .phase) (at .held)) (words tag : List ℕ)
     (ew : words
-    ≡ putState (paramsOf (e .variant)) (e .current .words)
-    (lastState (paramsOf (e .variant)) (stateIn (paramsOf (e .variant)) (e .current .words))
-    (take held (e .current .buffer)) (take held (e .current .buffer))))
+    ≡ putState (paramsOf v) (at .words)
+    (lastState (paramsOf v) (stateIn (paramsOf v) (at .words))
+    (take held (at .buffer)) (take held (at .buffer))))
     (et : tag
     ≡ inArray 32
-    (tagOf (paramsOf (e .variant)) (take (paramsOf (e .variant) .key) (e .pair .key))
-    (stateIn (paramsOf (e .variant)) words))) where
-  tag-sealed : tag ≡ inArray 32 (sealTag e)
-  unfolding sealTag currentKey
+    (tagOf (paramsOf v) (take (paramsOf v .key) key)
+    (stateIn (paramsOf v) words))) where
+  tag-sealed : tag ≡ inArray 32 (sealTag (paramsOf v) (take (paramsOf v .key) key) at)
+  unfolding sealTag
   tag-sealed =
-      let p = paramsOf (e .variant) in
-      tag-last p (sizes (e .variant)) (small (e .variant)) (e .current .words) hw (take (p .key) (e .pair .key)) _ _ words
-      tag (rw (held-is p (e .current) held eh) at ew) et
+      let p = paramsOf v in
+      tag-last p (sizes v) (small v) (at .words) hw (take (p .key) key) _ _ words
+      tag (rw (held-is p at held eh) at ew) et
 
-  pub sealed : (steps : ℕ) → steps ≡ cond (ltb 0 held) (paramsOf (e .variant) .big) 0
-      → _≡_ {A = End} (record { mac = record { readable = true; bytes = tag }; steps = steps }) (sealEnd e)
+  pub sealed : (steps : ℕ) → steps ≡ cond (ltb 0 held) (paramsOf v .big) 0
+      → _≡_ {A = End} (record { mac = record { readable = true; bytes = tag }; steps = steps }) (sealEnd (paramsOf v) (take (paramsOf v .key) key) at)
   unfolding readable lastSteps
   sealed steps es =
-      rw (tag-sealed, es, length-held (paramsOf (e .variant)) (e .current) held eh (small (e .variant)) hb) refl
+      rw (tag-sealed, es, length-held (paramsOf v) at held eh (small v) hb) refl
 
-  pub sealed-out : (bytes out out₁ out₂ : List ℕ) (k : ℕ) → held ≤ paramsOf (e .variant) .rate
+  pub sealed-out : (bytes out out₁ out₂ : List ℕ) (k : ℕ) → held ≤ paramsOf v .rate
       → bytes
       ≡ inArray 64
-      (crypt (paramsOf (e .variant)) (stateIn (paramsOf (e .variant)) (e .current .words))
-      (take held (e .current .buffer)))
-      → out₁ ≡ paste out 0 bytes held → k ≡ paramsOf (e .variant) .key → out₂ ≡ paste out₁ held tag k
-      → out₂ ≡ written (sealLast e ++ sealTag e) out
-  unfolding sealLast sealTag currentKey
+      (crypt (paramsOf v) (stateIn (paramsOf v) (at .words))
+      (take held (at .buffer)))
+      → out₁ ≡ paste out 0 bytes held → k ≡ paramsOf v .key → out₂ ≡ paste out₁ held tag k
+      → out₂ ≡ written (sealLast (paramsOf v) at ++ sealTag (paramsOf v) (take (paramsOf v .key) key) at) out
+  unfolding sealLast sealTag
   sealed-out bytes out out₁ out₂ k within eb e₁ ek e₂ =
-      let p = paramsOf (e .variant) in
-      let h = sizes (e .variant) in
-      let f = small (e .variant) in
-      let w = e .current .words in
-      let b = buffered p (e .current) in
-      let last = length-last p h f w hw b held (length-held p (e .current) held eh f hb) within in
-      let size = length-tag p h f w hw (e .pair .key) b b hk in
+      let p = paramsOf v in
+      let h = sizes v in
+      let f = small v in
+      let w = at .words in
+      let b = buffered p at in
+      let last = length-last p h f w hw b held (length-held p at held eh f hb) within in
+      let size = length-tag p h f w hw key b b hk in
       paste-behind out bytes tag _ _ out₁ out₂ held k e₁
-      (ap (take held) (rw (held-is p (e .current) held eh) at eb) ∙ all-inArray held 64 _ last (omega arith)) last e₂
+      (ap (take held) (rw (held-is p at held eh) at eb) ∙ all-inArray held 64 _ last (omega arith)) last e₂
       (ap (take k) tag-sealed ∙ all-inArray k 32 _ (size ∙ sym ek) (omega arith)) (size ∙ sym ek)
 
 -- ---- The end of an opening.
 
 -- what the code has of an opening before it writes: the bytes that the last block becomes, in an array, its tag, its
 -- steps, and whether the tag is the received one
-pub record Opening (e : SparkleEngine) (body : ℕ) (plain tag : List ℕ) (steps : ℕ) (equal : Bool) : Type 0 where
+pub record Opening (v : SparkleVariant) (at : Point) (key : List ℕ) (body : ℕ) (plain tag : List ℕ) (steps : ℕ) (equal : Bool) : Type 0 where
   pub within : body ≤ 64
-  pub block : length (openBlock e) ≡ body
-  pub bytes : take body plain ≡ openLast e
-  pub last : length (openLast e) ≡ body
-  pub mac : tag ≡ inArray 32 (openTag e)
-  pub run : steps ≡ lastSteps (paramsOf (e .variant)) (openBlock e)
-  pub verdict : equal ≡ same (receivedTag e) (openTag e)
+  pub block : length (openBlock (paramsOf v) at) ≡ body
+  pub bytes : take body plain ≡ openLast (paramsOf v) at
+  pub last : length (openLast (paramsOf v) at) ≡ body
+  pub mac : tag ≡ inArray 32 (openTag (paramsOf v) (take (paramsOf v .key) key) at)
+  pub run : steps ≡ lastSteps (paramsOf v) (openBlock (paramsOf v) at)
+  pub verdict : equal ≡ same (receivedTag (paramsOf v) at) (openTag (paramsOf v) (take (paramsOf v .key) key) at)
 
-module _ (e : SparkleEngine) (hw : length (e .current .words) ≡ 16) (hb : length (e .current .buffer) ≡ 64)
-    (hk : length (e .pair .key) ≡ 32) (held size : ℕ)
-    (eh : held ≡ bufferedCount (paramsOf (e .variant)) (e .current .phase) (e .current .held))
-    (ez : size ≡ paramsOf (e .variant) .key) (enough : size ≤ held) where
-  body-is : length (buffered (paramsOf (e .variant)) (e .current)) - paramsOf (e .variant) .key ≡ held - size
-  body-is = omega (arith, length-held (paramsOf (e .variant)) (e .current) held eh (small (e .variant)) hb)
+module _ (v : SparkleVariant) (at : Point) (key : List ℕ) (hw : length (at .words) ≡ 16) (hb : length (at .buffer) ≡ 64)
+    (hk : length key ≡ 32) (held size : ℕ)
+    (eh : held ≡ bufferedCount (paramsOf v) (at .phase) (at .held))
+    (ez : size ≡ paramsOf v .key) (enough : size ≤ held) where
+  body-is : length (buffered (paramsOf v) at) - paramsOf v .key ≡ held - size
+  body-is = omega (arith, length-held (paramsOf v) at held eh (small v) hb)
 
-  block-is : take (held - size) (e .current .buffer) ≡ openBlock e
+  block-is : take (held - size) (at .buffer) ≡ openBlock (paramsOf v) at
   unfolding openBlock
   block-is =
-      rw (body-is, ← held-is (paramsOf (e .variant)) (e .current) held eh)
-      (sym (take-take (held - size) held (e .current .buffer) (omega arith)))
+      rw (body-is, ← held-is (paramsOf v) at held eh)
+      (sym (take-take (held - size) held (at .buffer) (omega arith)))
 
-  received-is : take size (drop (held - size) (e .current .buffer)) ≡ receivedTag e
+  received-is : take size (drop (held - size) (at .buffer)) ≡ receivedTag (paramsOf v) at
   unfolding receivedTag
   received-is =
-      let b = e .current .buffer in
+      let b = at .buffer in
       let split : held ≡ held - size + size = omega arith in
-      let bound = bufferedCount-bound (paramsOf (e .variant)) (small (e .variant)) (e .current .phase) (e .current .held) in
-      rw (body-is, ← held-is (paramsOf (e .variant)) (e .current) held eh)
+      let bound = bufferedCount-bound (paramsOf v) (small v) (at .phase) (at .held) in
+      rw (body-is, ← held-is (paramsOf v) at held eh)
       (sym (ap (λ (n : ℕ). drop (held - size) (take n b)) split ∙ ap (drop (held - size)) (take-add (held - size) size b)
       ∙ drop-at (take (held - size) b) (take size (drop (held - size) b)) (held - size)
       (length-take-le (held - size) b (omega arith))))
 
-  pub opening-is : held ≤ paramsOf (e .variant) .rate + paramsOf (e .variant) .key
+  pub opening-is : held ≤ paramsOf v .rate + paramsOf v .key
       → (plain words tag : List ℕ) (steps : ℕ) (equal : Bool)
       → plain
       ≡ inArray 64
-      (crypt (paramsOf (e .variant)) (stateIn (paramsOf (e .variant)) (e .current .words))
-      (take (held - size) (e .current .buffer)))
+      (crypt (paramsOf v) (stateIn (paramsOf v) (at .words))
+      (take (held - size) (at .buffer)))
       → words
-      ≡ putState (paramsOf (e .variant)) (e .current .words)
-      (lastState (paramsOf (e .variant)) (stateIn (paramsOf (e .variant)) (e .current .words)) (take (held - size) plain)
+      ≡ putState (paramsOf v) (at .words)
+      (lastState (paramsOf v) (stateIn (paramsOf v) (at .words)) (take (held - size) plain)
       (take (held - size) plain))
       → tag
       ≡ inArray 32
-      (tagOf (paramsOf (e .variant)) (take (paramsOf (e .variant) .key) (e .pair .key))
-      (stateIn (paramsOf (e .variant)) words))
-      → steps ≡ cond (ltb 0 (held - size)) (paramsOf (e .variant) .big) 0
-      → equal ≡ same (take size (drop (held - size) (e .current .buffer))) (take size tag)
-      → Opening e (held - size) plain tag steps equal
-  unfolding openLast openTag currentKey lastSteps
+      (tagOf (paramsOf v) (take (paramsOf v .key) key)
+      (stateIn (paramsOf v) words))
+      → steps ≡ cond (ltb 0 (held - size)) (paramsOf v .big) 0
+      → equal ≡ same (take size (drop (held - size) (at .buffer))) (take size tag)
+      → Opening v at key (held - size) plain tag steps equal
+  unfolding openLast openTag lastSteps
   opening-is small-enough plain words tag steps equal ep ew et es eq =
-      let p = paramsOf (e .variant) in
-      let h = sizes (e .variant) in
-      let f = small (e .variant) in
-      let w = e .current .words in
+      let p = paramsOf v in
+      let h = sizes v in
+      let f = small v in
+      let w = at .words in
       let body = held - size in
       let fits : body ≤ 64 = omega arith in
-      let block = ap length (sym block-is) ∙ length-take-le body (e .current .buffer) (omega arith) in
-      let last = length-last p h f w hw (openBlock e) body block (omega arith) in
-      let bytes = ap (take body) (rw block-is at ep) ∙ all-inArray body 64 (openLast e) last fits in
+      let block = ap length (sym block-is) ∙ length-take-le body (at .buffer) (omega arith) in
+      let last = length-last p h f w hw (openBlock (paramsOf v) at) body block (omega arith) in
+      let bytes = ap (take body) (rw block-is at ep) ∙ all-inArray body 64 (openLast (paramsOf v) at) last fits in
       let mac =
-      tag-last p h f w hw (take (p .key) (e .pair .key)) (openLast e) (openLast e) words tag (rw bytes at ew) et
-      ∙ ap (λ (s : List ℕ). inArray 32 (tagOf p (take (p .key) (e .pair .key)) s))
-      (lastState-length p (stateIn p w) (openLast e) (openBlock e) (openLast e) (last ∙ sym block)) in
-      let length-mac = length-tag p h f w hw (e .pair .key) (openBlock e) (openLast e) hk in
+      tag-last p h f w hw (take (p .key) key) (openLast (paramsOf v) at) (openLast (paramsOf v) at) words tag (rw bytes at ew) et
+      ∙ ap (λ (s : List ℕ). inArray 32 (tagOf p (take (p .key) key) s))
+      (lastState-length p (stateIn p w) (openLast (paramsOf v) at) (openBlock (paramsOf v) at) (openLast (paramsOf v) at) (last ∙ sym block)) in
+      let length-mac = length-tag p h f w hw key (openBlock (paramsOf v) at) (openLast (paramsOf v) at) hk in
       record {
         within = fits;
         block = block;
@@ -246,7 +244,7 @@ module _ (e : SparkleEngine) (hw : length (e .current .words) ≡ 16) (hb : leng
         run = es ∙ rw block;
         verdict =
             eq ∙ ap₂ same received-is
-            (ap (take size) mac ∙ all-inArray size 32 (openTag e) (length-mac ∙ sym ez) (omega arith));
+            (ap (take size) mac ∙ all-inArray size 32 (openTag (paramsOf v) (take (paramsOf v .key) key) at) (length-mac ∙ sym ez) (omega arith));
       }
 
 take-zeros : (n m : ℕ) → n ≤ m → take n (zeros m) ≡ zeros n
@@ -255,27 +253,27 @@ take-zeros zero m h = refl
 take-zeros (suc n) zero h = absurd (omega arith)
 take-zeros (suc n) (suc m) h = ap (_∷_ 0) (take-zeros n m (omega arith))
 
-module _ {e : SparkleEngine} {body steps : ℕ} {plain tag : List ℕ} {equal : Bool}
-    (o : Opening e body plain tag steps equal) where
+module _ {v : SparkleVariant} {at : Point} {key : List ℕ} {body steps : ℕ} {plain tag : List ℕ} {equal : Bool}
+    (o : Opening v at key body plain tag steps equal) where
   -- the received tag is right
   pub opened : equal ≡ true
       → _≡_ {A = End} (record { mac = record { readable = true; bytes = tag }; steps = steps })
-      (openEnd (same (receivedTag e) (openTag e)) e)
+      (openEnd (paramsOf v) (take (paramsOf v .key) key) at)
   unfolding readable
   opened right = rw (sym (o .verdict) ∙ right, o .mac, o .run) refl
 
   pub opened-out : (out out₁ : List ℕ) → equal ≡ true → out₁ ≡ paste out 0 plain body
-      → out₁ ≡ written (openEndOut (same (receivedTag e) (openTag e)) e) out
+      → out₁ ≡ written (openOut (paramsOf v) (take (paramsOf v .key) key) at) out
   opened-out out out₁ right e₁ =
-      rw (sym (o .verdict) ∙ right) (e₁ ∙ paste-front out plain (openLast e) body (o .bytes) (o .last))
+      rw (sym (o .verdict) ∙ right) (e₁ ∙ paste-front out plain (openLast (paramsOf v) at) body (o .bytes) (o .last))
 
   -- it is wrong
   pub unopened : (mac : Mac) → equal ≡ false → mac ≡ noMac
-      → _≡_ {A = End} (record { mac = mac; steps = steps }) (openEnd (same (receivedTag e) (openTag e)) e)
+      → _≡_ {A = End} (record { mac = mac; steps = steps }) (openEnd (paramsOf v) (take (paramsOf v .key) key) at)
   unopened mac wrong em = rw (sym (o .verdict) ∙ wrong, em, o .run) refl
 
   pub unopened-out : (out out₁ bytes : List ℕ) → equal ≡ false → out₁ ≡ paste out 0 bytes body → bytes ≡ zeros 64
-      → out₁ ≡ written (openEndOut (same (receivedTag e) (openTag e)) e) out
+      → out₁ ≡ written (openOut (paramsOf v) (take (paramsOf v .key) key) at) out
   unopened-out out out₁ bytes wrong e₁ eb =
       rw (sym (o .verdict) ∙ wrong, o .block)
       (e₁

@@ -2,14 +2,14 @@
 -- and what the call then answers.
 use mathlib.Core.Path.{_≡_, refl, sym, ap, _∙_}
 use mathlib.Core.Bool.{Bool, true, false, cond}
-use mathlib.Core.List.{List, _++_}
+use mathlib.Core.List.{List}
 use Prim.Native.Nat.{ℕ, _+_, _^_, _≤_}
 use native.Mathlib.Omega.{arith}
 use lib.Dec.{ltb}
 use borrow.Author.Tests.{ltb-false}
 use lib.ListN.{length}
-use Rattle.schwaemm.specs.Bytes.{same}
 use Rattle.schwaemm.specs.Schwaemm.{Params}
+use Rattle.tc_aead_cipher.specs.declared.variant.SparkleVariant.{SparkleVariant}
 use Rattle.tc_aead_cipher.specs.declared.phase.Direction.{Direction}
 use Rattle.tc_aead_cipher.specs.declared.phase.Direction.the-variants.{Encrypt, Decrypt}
 use Rattle.tc_aead_cipher.specs.declared.phase.Phase.{Phase}
@@ -19,14 +19,15 @@ use Rattle.tc_aead_cipher.specs.declared.aead_error.AeadResult.{AeadResult}
 use Rattle.tc_aead_cipher.specs.declared.aead_error.AeadResult.the-variants.{Ok, Err}
 use Rattle.tc_sparkle_aead.specs.declared.message.Point.{Point}
 use Rattle.tc_sparkle_aead.specs.declared.message.End.{End}
+use Rattle.tc_sparkle_aead.specs.declared.engine.Pair.{Pair}
 use Rattle.tc_sparkle_aead.specs.declared.engine.Done.{Done}
 use Rattle.tc_sparkle_aead.specs.declared.engine.SparkleEngine.{SparkleEngine}
 use Rattle.tc_aead_cipher.specs.Variant.{paramsOf}
 use Rattle.tc_aead_cipher.specs.Checks.{opening, keep, heldData, then, within64, room, phaseCheck, totalLen, whole, endCheck}
-use Rattle.tc_sparkle_aead.specs.Message.{noMac, bufferedCount, beginPoint, beginSteps, written, readable}
+use Rattle.tc_sparkle_aead.specs.Message.{noMac, readable, bufferedCount, beginPoint, beginSteps, written, sealEnd, sealOut, verifies, openEndBy, openEnd, openOut}
 use Rattle.tc_sparkle_aead.specs.Engine.{currentKey}
-use Rattle.tc_sparkle_aead.specs.Calls.{atPoint, beginData, messageAt, sealLast, sealTag, sealFinal, openBlock, openLast, receivedTag, openTag, finalEngine, finish, answered, sealEnd, openEnd, openFinal, openFinalBy, openEndOut, finalBy, finalOutBy, finalAnswer, doFinal, doFinalOut}
-use Rattle.tc_sparkle_aead.proofs.BeginLaws.{begin-held, begin-ended, begin-message}
+use Rattle.tc_sparkle_aead.specs.Calls.{atPoint, beginData, finalEngine, finish, answered, sealFinal, openFinal, openFinalBy, finalBytes, finalBy, finalOutBy, finalAnswer, doFinal, doFinalOut}
+use Rattle.tc_sparkle_aead.proofs.BeginLaws.{begin-held, begin-ended, begin-parts}
 
 -- ---- A check that passes.
 
@@ -100,26 +101,20 @@ module _ (p : Params) (phase : Phase) (held available n : ℕ) (passed : endChec
 
 -- ---- The call.
 
+-- what an end gives and writes, from the engine's parts
+abbrev sealOf : SparkleVariant → Pair → Point → End
+sealOf v pair at = sealEnd (paramsOf v) (currentKey (paramsOf v) pair) at
+
+abbrev openOf : SparkleVariant → Pair → Point → End
+openOf v pair at = openEnd (paramsOf v) (currentKey (paramsOf v) pair) at
+
 -- the end of an opening gives its tag, and a readable one where the received tag is right
-open-end-by : (right : Bool) (e : SparkleEngine) (n : ℕ)
-    → finish e (answered (Ok n) (openEnd right e .mac)) Decrypt (openEnd right e .mac) (openEnd right e .steps)
-    ≡ openFinalBy right e n
+open-end-by : (right : Bool) (e : SparkleEngine) (n : ℕ) (r : End)
+    → r ≡ openEndBy right (paramsOf (e .variant)) (currentKey (paramsOf (e .variant)) (e .pair)) (e .current)
+    → finish e (answered (Ok n) (r .mac)) Decrypt (r .mac) (r .steps) ≡ openFinalBy right e n
 unfolding finish readable noMac
-open-end-by true e n = refl
-open-end-by false e n = refl
-
--- it depends on the message alone
-module _ (e : SparkleEngine) where
-  opened-message : (right : Bool) → openEnd right (messageAt (e .variant) (e .current) (e .pair)) ≡ openEnd right e
-  unfolding openTag openLast openBlock currentKey
-  opened-message true = refl
-  opened-message false = refl
-
-  opened-out-message : (right : Bool)
-      → openEndOut right (messageAt (e .variant) (e .current) (e .pair)) ≡ openEndOut right e
-  unfolding openLast openBlock
-  opened-out-message true = refl
-  opened-out-message false = refl
+open-end-by true e n r is = ap (λ (x : End). finish e (answered (Ok n) (x .mac)) Decrypt (x .mac) (x .steps)) is
+open-end-by false e n r is = ap (λ (x : End). finish e (answered (Ok n) (x .mac)) Decrypt (x .mac) (x .steps)) is
 
 -- the check has passed with n, the data begins at a point, and the direction is told
 pub record Accepted (e : SparkleEngine) (at : Point) (out : List ℕ) (n : ℕ) (opens : Bool) : Type 0 where
@@ -136,12 +131,11 @@ module _ {e : SparkleEngine} {at : Point} {out : List ℕ} {n : ℕ} {opens : Bo
       ≤ keep (paramsOf (e .variant)) (e .current .phase) + paramsOf (e .variant) .rate
   bound = heldData-bound (paramsOf (e .variant)) (e .current .phase) (e .current .held)
 
-  -- the engine in which the data begins, as far as an end depends on it
-  message-is : messageAt (e .variant) at (e .pair)
-      ≡ messageAt (beginData e .variant) (beginData e .current) (beginData e .pair)
+  -- what is made of the variant, the pair and the point where the data begins
+  parts-are : {A : Type 0} (f : SparkleVariant → Pair → Point → A)
+      → f (e .variant) (e .pair) at ≡ f (beginData e .variant) (beginData e .pair) (beginData e .current)
   unfolding beginData
-  message-is =
-      ap (λ (x : Point). messageAt (e .variant) x (e .pair)) (t .begins) ∙ sym (begin-message e (e .current .phase))
+  parts-are f = ap (f (e .variant) (e .pair)) (t .begins) ∙ sym (begin-parts e f (e .current .phase))
 
   -- an engine that has ended, by what the end gave
   ended-is : (answer : AeadResult) → answer ≡ Ok n → (first : ℕ)
@@ -172,22 +166,23 @@ module _ {e : SparkleEngine} {at : Point} {out : List ℕ} {n : ℕ} {opens : Bo
 
     pub final-sealed : (answer : AeadResult) → answer ≡ Ok n → (first : ℕ)
         → first ≡ beginSteps (paramsOf (e .variant)) (e .current .phase) → (x : Point) (end : End)
-        → end ≡ sealEnd (messageAt (e .variant) at (e .pair)) → (done : Done)
+        → end ≡ sealEnd (paramsOf (e .variant)) (currentKey (paramsOf (e .variant)) (e .pair)) at → (done : Done)
         → done ≡ finish (atPoint e x first) (answered answer (end .mac)) Encrypt (end .mac) (end .steps)
         → done ≡ doFinal e out
-    unfolding doFinal sealFinal finish sealTag currentKey readable
+    unfolding doFinal sealFinal finish readable
     final-sealed answer told first ef x end ee done ed =
         rw (t .passed, sealing)
-        (ed ∙ ended-is answer told first ef x Encrypt end (sealEnd (beginData e)) (ee ∙ ap sealEnd message-is))
+        (ed
+        ∙ ended-is answer told first ef x Encrypt end (sealOf (beginData e .variant) (beginData e .pair) (beginData e .current))
+        (ee ∙ parts-are sealOf))
 
     pub final-sealed-out : (out₁ : List ℕ)
-        → out₁
-        ≡ written
-        (sealLast (messageAt (e .variant) at (e .pair)) ++ sealTag (messageAt (e .variant) at (e .pair))) out
-        → out₁ ≡ doFinalOut e out
-    unfolding doFinalOut sealLast sealTag currentKey
+        → out₁ ≡ written (sealOut (paramsOf (e .variant)) (currentKey (paramsOf (e .variant)) (e .pair)) at) out → out₁ ≡ doFinalOut e out
+    unfolding doFinalOut finalBytes
     final-sealed-out out₁ ed =
-        rw (t .passed, sealing) (ed ∙ ap (λ (m : SparkleEngine). written (sealLast m ++ sealTag m) out) message-is)
+        rw (t .passed, sealing)
+        (ed ∙ parts-are (λ (v : SparkleVariant) (pair : Pair) (x : Point).
+        written (sealOut (paramsOf v) (currentKey (paramsOf v) pair) x) out))
 
   -- an opening
   module _ (is-opening : opens ≡ true) where
@@ -206,35 +201,24 @@ module _ {e : SparkleEngine} {at : Point} {out : List ℕ} {n : ℕ} {opens : Bo
 
     pub final-opened : (answer : AeadResult) → answer ≡ Ok n → (first : ℕ)
         → first ≡ beginSteps (paramsOf (e .variant)) (e .current .phase) → (x : Point) (end : End)
-        → end
-        ≡ openEnd
-        (same (receivedTag (messageAt (e .variant) at (e .pair))) (openTag (messageAt (e .variant) at (e .pair))))
-        (messageAt (e .variant) at (e .pair))
+        → end ≡ openEnd (paramsOf (e .variant)) (currentKey (paramsOf (e .variant)) (e .pair)) at
         → (done : Done) → done ≡ finish (atPoint e x first) (answered answer (end .mac)) Decrypt (end .mac) (end .steps)
         → done ≡ doFinal e out
-    unfolding doFinal openFinal receivedTag openTag openLast openBlock currentKey
+    unfolding doFinal openFinal
     final-opened answer told first ef x end ee done ed =
-        let right = same (receivedTag (beginData e)) (openTag (beginData e)) in
+        let r = openOf (beginData e .variant) (beginData e .pair) (beginData e .current) in
+        let p = paramsOf (beginData e .variant) in
+        let right = verifies p (currentKey p (beginData e .pair)) (beginData e .current) in
         rw (t .passed, opened)
-        (ed
-        ∙ ended-is answer told first ef x Decrypt end (openEnd right (beginData e))
-        (ee ∙ ap (λ (m : SparkleEngine). openEnd (same (receivedTag m) (openTag m)) m) message-is
-        ∙ opened-message (beginData e) right)
-        ∙ open-end-by right (beginData e) n)
+        (ed ∙ ended-is answer told first ef x Decrypt end r (ee ∙ parts-are openOf)
+        ∙ open-end-by right (beginData e) n r refl)
 
-    pub final-opened-out : (out₁ : List ℕ)
-        → out₁
-        ≡ written
-        (openEndOut
-        (same (receivedTag (messageAt (e .variant) at (e .pair))) (openTag (messageAt (e .variant) at (e .pair))))
-        (messageAt (e .variant) at (e .pair))) out
-        → out₁ ≡ doFinalOut e out
-    unfolding doFinalOut receivedTag openTag openLast openBlock currentKey
+    pub final-opened-out : (out₁ : List ℕ) → out₁ ≡ written (openOut (paramsOf (e .variant)) (currentKey (paramsOf (e .variant)) (e .pair)) at) out → out₁ ≡ doFinalOut e out
+    unfolding doFinalOut finalBytes
     final-opened-out out₁ ed =
         rw (t .passed, opened)
-        (ed ∙ ap (λ (m : SparkleEngine). written (openEndOut (same (receivedTag m) (openTag m)) m) out) message-is
-        ∙ ap (λ (bytes : List ℕ). written bytes out)
-        (opened-out-message (beginData e) (same (receivedTag (beginData e)) (openTag (beginData e)))))
+        (ed ∙ parts-are (λ (v : SparkleVariant) (pair : Pair) (x : Point).
+        written (openOut (paramsOf v) (currentKey (paramsOf v) pair) x) out))
 
 -- a refused end
 module _ (e : SparkleEngine) (out : List ℕ) (answer : AeadResult) (x : AeadError)

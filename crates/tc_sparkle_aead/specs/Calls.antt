@@ -27,7 +27,7 @@ use Rattle.tc_sparkle_aead.specs.declared.message.End.{End}
 use Rattle.tc_sparkle_aead.specs.declared.engine.Started.{Started}
 use Rattle.tc_aead_cipher.specs.Variant.{paramsOf}
 use Rattle.tc_aead_cipher.specs.Checks.{opening, aadCheck, dataCheck, endCheck, startCheck}
-use Rattle.tc_sparkle_aead.specs.Message.{zeros, noMessage, noMac, stateIn, buffered, startPoint, absorbHeader, headerSteps, withoutHeader, afterHeader, dataFrom, streamOut, written, lastState, lastSteps, finalPoint, readable, resetPoint}
+use Rattle.tc_sparkle_aead.specs.Message.{zeros, noMessage, noMac, stateIn, buffered, startPoint, absorbHeader, headerSteps, withoutHeader, afterHeader, dataFrom, streamOut, written, finalPoint, sealEnd, sealOut, verifies, openEndBy, openOut, resetPoint}
 use Rattle.tc_sparkle_aead.specs.Engine.{repeats, remember, currentKey, noSteps, refusedSteps, initSteps, resetSteps}
 
 -- ---- A point of a message
@@ -144,44 +144,7 @@ processBytesOut e input out = dataOutBy (dataAnswer e (length input) (length out
 
 -- ---- do_final
 
--- What an end depends on: the variant, the point and the loaded pair. An engine with these alone.
-abbrev pub messageAt : SparkleVariant → Point → Pair → SparkleEngine
-messageAt v at pair =
-    record { variant = v; current = at; initial = noMessage; pair = pair; mac = noMac; steps = noSteps }
-
--- The last bytes of a sealing and its tag, from the engine in Data.
-unfoldable pub sealTag : SparkleEngine → List ℕ
-sealTag e =
-    let p = paramsOf (e .variant) in
-    let s = stateIn p (e .current .words) in
-    tagOf p (currentKey p (e .pair)) (lastState p s (buffered p (e .current)) (buffered p (e .current)))
-
-unfoldable pub sealLast : SparkleEngine → List ℕ
-sealLast e =
-    let p = paramsOf (e .variant) in
-    crypt p (stateIn p (e .current .words)) (buffered p (e .current))
-
--- Of an opening: the held ciphertext and the received tag, what the ciphertext becomes, and the tag of that.
-unfoldable pub openBlock : SparkleEngine → List ℕ
-openBlock e =
-    let p = paramsOf (e .variant) in
-    take (length (buffered p (e .current)) - p .key) (buffered p (e .current))
-
-unfoldable pub receivedTag : SparkleEngine → List ℕ
-receivedTag e =
-    let p = paramsOf (e .variant) in
-    drop (length (buffered p (e .current)) - p .key) (buffered p (e .current))
-
-unfoldable pub openLast : SparkleEngine → List ℕ
-openLast e =
-    let p = paramsOf (e .variant) in
-    crypt p (stateIn p (e .current .words)) (openBlock e)
-
-unfoldable pub openTag : SparkleEngine → List ℕ
-openTag e =
-    let p = paramsOf (e .variant) in
-    tagOf p (currentKey p (e .pair)) (lastState p (stateIn p (e .current .words)) (openBlock e) (openLast e))
-
+-- The message has ended, after n more steps.
 unfoldable pub finalEngine : SparkleEngine → Direction → Mac → ℕ → SparkleEngine
 finalEngine e d mac n =
     record {
@@ -196,52 +159,46 @@ finalEngine e d mac n =
 unfoldable pub finish : SparkleEngine → AeadResult → Direction → Mac → ℕ → Done
 finish e answer d mac n = record { answer = answer; engine = finalEngine e d mac n }
 
--- The tag and the steps of the end of a sealing, and of an opening by whether the received tag is the specification's.
-abbrev pub sealEnd : SparkleEngine → End
-sealEnd e =
-    let p = paramsOf (e .variant) in
-    record { mac = readable (sealTag e); steps = lastSteps p (buffered p (e .current)) }
-
-abbrev pub openEnd : Bool → SparkleEngine → End
-openEnd true e = record { mac = readable (openTag e); steps = lastSteps (paramsOf (e .variant)) (openBlock e) }
-openEnd false e = record { mac = noMac; steps = lastSteps (paramsOf (e .variant)) (openBlock e) }
-
 -- An end without a tag that can be read is refused.
 abbrev pub answered : AeadResult → Mac → AeadResult
 answered answer mac = cond (mac .readable) answer (Err AuthenticationFailed)
 
--- The end of a sealing, and of an opening.
+-- The end of a sealing, and of an opening by whether the received tag is the specification's; of the engine in Data.
 unfoldable pub sealFinal : SparkleEngine → ℕ → Done
 sealFinal e n =
-    let r = sealEnd e in record { answer = Ok n; engine = finalEngine e Encrypt (r .mac) (r .steps) }
+    let p = paramsOf (e .variant) in
+    let r = sealEnd p (currentKey p (e .pair)) (e .current) in
+    record { answer = Ok n; engine = finalEngine e Encrypt (r .mac) (r .steps) }
 
 abbrev pub openFinalBy : Bool → SparkleEngine → ℕ → Done
 openFinalBy true e n =
-    let r = openEnd true e in record { answer = Ok n; engine = finalEngine e Decrypt (r .mac) (r .steps) }
+    let p = paramsOf (e .variant) in
+    let r = openEndBy true p (currentKey p (e .pair)) (e .current) in
+    record { answer = Ok n; engine = finalEngine e Decrypt (r .mac) (r .steps) }
 openFinalBy false e n =
-    let r = openEnd false e in
+    let p = paramsOf (e .variant) in
+    let r = openEndBy false p (currentKey p (e .pair)) (e .current) in
     record { answer = Err AuthenticationFailed; engine = finalEngine e Decrypt (r .mac) (r .steps) }
 
 unfoldable pub openFinal : SparkleEngine → ℕ → Done
-openFinal e n = openFinalBy (same (receivedTag e) (openTag e)) e n
-
--- What a failed tag leaves of the bytes that the end would have written: zeros.
-abbrev pub openEndOut : Bool → SparkleEngine → List ℕ
-openEndOut true e = openLast e
-openEndOut false e = zeros (length (openBlock e))
+openFinal e n =
+    let p = paramsOf (e .variant) in
+    openFinalBy (verifies p (currentKey p (e .pair)) (e .current)) e n
 
 abbrev pub finalBy : AeadResult → SparkleEngine → Done
 finalBy (Err x) e = record { answer = Err x; engine = e }
 finalBy (Ok n) e = cond (opening (e .current .phase)) (openFinal (beginData e) n) (sealFinal (beginData e) n)
 
+-- What an end writes.
+unfoldable pub finalBytes : Bool → SparkleEngine → List ℕ
+finalBytes opens e =
+    let p = paramsOf (e .variant) in
+    let key = currentKey p (e .pair) in
+    cond opens (openOut p key (e .current)) (sealOut p key (e .current))
+
 abbrev pub finalOutBy : AeadResult → SparkleEngine → List ℕ → List ℕ
 finalOutBy (Err x) e out = out
-finalOutBy (Ok n) e out =
-    written
-    (cond (opening (e .current .phase))
-    (openEndOut (same (receivedTag (beginData e)) (openTag (beginData e))) (beginData e))
-    (sealLast (beginData e) ++ sealTag (beginData e)))
-    out
+finalOutBy (Ok n) e out = written (finalBytes (opening (e .current .phase)) (beginData e)) out
 
 abbrev pub finalAnswer : SparkleEngine → ℕ → AeadResult
 finalAnswer e available = endCheck (paramsOf (e .variant)) (e .current .phase) (e .current .held) available

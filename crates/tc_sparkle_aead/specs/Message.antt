@@ -4,18 +4,19 @@ use Prim.Native.Nat.{ℕ, _+_, _-_, _*_, _/_, min}
 use mathlib.Core.Bool.{Bool, true, false, cond}
 use mathlib.Core.List.{List, _++_, [], _∷_}
 use lib.ListN.{take, replicate, length, drop, getD}
-use Rattle.schwaemm.specs.Schwaemm.{Params, crypt, mixLast, initialise, absorbBlock, sealing as sealingBlock, opening as openingBlock, messageBlock}
+use Rattle.schwaemm.specs.Schwaemm.{Params, crypt, mixLast, initialise, absorbBlock, sealing as sealingBlock, opening as openingBlock, messageBlock, tagOf}
 use Rattle.tc_aead_cipher.specs.declared.phase.Phase.the-variants.{Uninitialized, Init, Aad, Data, Final}
 use Rattle.tc_sparkle_aead.specs.declared.message.Point.{Point}
 use Rattle.tc_sparkle_aead.specs.declared.engine.Mac.{Mac}
 use lib.Dec.{ltb}
 use lib.Bits.{bitXor}
-use Rattle.schwaemm.specs.Bytes.{ifEmpty}
+use Rattle.schwaemm.specs.Bytes.{ifEmpty, same}
 use Rattle.schwaemm.specs.Blocks.{ready, after, given, held}
 use Rattle.tc_aead_cipher.specs.declared.phase.Direction.{Direction}
 use Rattle.tc_aead_cipher.specs.declared.phase.Direction.the-variants.{Encrypt, Decrypt}
 use Rattle.tc_aead_cipher.specs.declared.phase.Phase.{Phase}
 use Rattle.tc_sparkle_aead.specs.declared.message.Progress.{Progress}
+use Rattle.tc_sparkle_aead.specs.declared.message.End.{End}
 use Rattle.tc_aead_cipher.specs.Checks.{opening, keep, heldData}
 
 -- n zeros, and a list in an array of n: zeros behind it, and cut where it is longer.
@@ -29,9 +30,12 @@ inArray n l = take n (l ++ zeros n)
 unfoldable pub noMessage : Point
 noMessage = record { phase = Uninitialized; words = zeros 16; buffer = zeros 64; held = 0 }
 
--- No readable tag.
+-- No readable tag, and one.
 unfoldable pub noMac : Mac
 noMac = record { readable = false; bytes = zeros 32 }
+
+unfoldable pub readable : List ℕ → Mac
+readable tag = record { readable = true; bytes = inArray 32 tag }
 
 -- The state in the engine's array of words, and the array with another state.
 unfoldable pub stateIn : Params → List ℕ → List ℕ
@@ -154,12 +158,55 @@ lastState p s block plain = ifEmpty block s (mixLast p 2 s plain)
 unfoldable pub lastSteps : Params → List ℕ → ℕ
 lastSteps p block = cond (ltb 0 (length block)) (p .big) 0
 
+-- The end of a sealing under a key: what the held bytes become, the tag, both as they are written; the tag and the steps.
+unfoldable pub sealLast : Params → Point → List ℕ
+sealLast p at = crypt p (stateIn p (at .words)) (buffered p at)
+
+unfoldable pub sealTag : Params → (key : List ℕ) → Point → List ℕ
+sealTag p key at = tagOf p key (lastState p (stateIn p (at .words)) (buffered p at) (buffered p at))
+
+abbrev pub sealOut : Params → (key : List ℕ) → Point → List ℕ
+sealOut p key at = sealLast p at ++ sealTag p key at
+
+abbrev pub sealEnd : Params → (key : List ℕ) → Point → End
+sealEnd p key at = record { mac = readable (sealTag p key at); steps = lastSteps p (buffered p at) }
+
+-- Of an opening: the held ciphertext and the received tag, what the ciphertext becomes, the tag of that, and whether it
+-- is the received one.
+unfoldable pub openBlock : Params → Point → List ℕ
+openBlock p at = take (length (buffered p at) - p .key) (buffered p at)
+
+unfoldable pub receivedTag : Params → Point → List ℕ
+receivedTag p at = drop (length (buffered p at) - p .key) (buffered p at)
+
+unfoldable pub openLast : Params → Point → List ℕ
+openLast p at = crypt p (stateIn p (at .words)) (openBlock p at)
+
+unfoldable pub openTag : Params → (key : List ℕ) → Point → List ℕ
+openTag p key at = tagOf p key (lastState p (stateIn p (at .words)) (openBlock p at) (openLast p at))
+
+abbrev pub verifies : Params → (key : List ℕ) → Point → Bool
+verifies p key at = same (receivedTag p at) (openTag p key at)
+
+-- The end of an opening: the tag and the steps, and what is written. What a failed tag leaves of the bytes that would have
+-- been written: zeros.
+abbrev pub openEndBy : Bool → Params → (key : List ℕ) → Point → End
+openEndBy true p key at = record { mac = readable (openTag p key at); steps = lastSteps p (openBlock p at) }
+openEndBy false p key at = record { mac = noMac; steps = lastSteps p (openBlock p at) }
+
+abbrev pub openEnd : Params → (key : List ℕ) → Point → End
+openEnd p key at = openEndBy (verifies p key at) p key at
+
+abbrev pub openOutBy : Bool → Params → Point → List ℕ
+openOutBy true p at = openLast p at
+openOutBy false p at = zeros (length (openBlock p at))
+
+abbrev pub openOut : Params → (key : List ℕ) → Point → List ℕ
+openOut p key at = openOutBy (verifies p key at) p at
+
 -- The message has ended: words and buffer are wiped, the point after init stays.
 unfoldable pub finalPoint : Direction → Point
 finalPoint d = record { phase = Final d; words = zeros 16; buffer = zeros 64; held = 0 }
-
-unfoldable pub readable : List ℕ → Mac
-readable tag = record { readable = true; bytes = inArray 32 tag }
 
 -- Sealing in Data or Final ends in Final; sealing in Init or Aad, and every opening phase, returns to the point after init.
 abbrev pub resetPoint : Phase → Point → Point

@@ -7,11 +7,10 @@ ghost use Prim.Native.Nat.{_+_, _*_, _≤_, _<_};
 ghost use mathlib.Core.Bool.{cond};
 ghost use lib.Dec.{ltb};
 ghost use lib.ListN.{length, take};
-ghost use Rattle.schwaemm.specs.Bytes.{same};
 ghost use Rattle.schwaemm.specs.Schwaemm.{messageBlock};
 ghost use Rattle.tc_aead_cipher.specs.Checks.{keep};
-ghost use Rattle.tc_sparkle_aead.specs.Message.{noMessage, bufferedCount, blockCount, streamed, startPoint, absorbHeader, headerSteps, beginPoint, beginSteps, streamOut, afterHeader, withoutHeader, plainOf, dataFrom, written, finalPoint, stateIn, putState, lastState, resetPoint};
-ghost use Rattle.tc_sparkle_aead.specs.Calls.{messageAt, sealLast, sealTag, receivedTag, openTag, sealEnd, openEnd, openEndOut};
+ghost use Rattle.tc_sparkle_aead.specs.Message.{noMessage, bufferedCount, blockCount, streamed, startPoint, absorbHeader, headerSteps, beginPoint, beginSteps, streamOut, afterHeader, withoutHeader, plainOf, dataFrom, written, finalPoint, stateIn, putState, lastState, resetPoint, sealEnd, sealOut, openEnd, openOut};
+ghost use Rattle.tc_sparkle_aead.specs.Engine.{currentKey};
 use super::blocks;
 use super::bytes;
 use super::engine;
@@ -284,8 +283,8 @@ fn last_steps(variant: SparkleVariant, n: usize) -> u64
 // The end of a sealing: the last bytes and the tag.
 pub(crate) fn seal_end(variant: SparkleVariant, at: Point, pair: Pair, output: &mut [u8]) -> End
     requires { ⌜ (bufferedCount (paramsOf variant) (at .phase) (at .held) ≤ paramsOf variant .rate) × (bufferedCount (paramsOf variant) (at .phase) (at .held) + paramsOf variant .key ≤ length (now output)) ⌝ }
-    ensures { λ r. ⌜ r ≡ sealEnd (messageAt variant at pair) ⌝ }
-    ensures { λ _. ⌜ now (output .exit) ≡ written (sealLast (messageAt variant at pair) ++ sealTag (messageAt variant at pair)) (now (output .entry)) ⌝ }
+    ensures { λ r. ⌜ r ≡ sealEnd (paramsOf variant) (currentKey (paramsOf variant) pair) at ⌝ }
+    ensures { λ _. ⌜ now (output .exit) ≡ written (sealOut (paramsOf variant) (currentKey (paramsOf variant) pair) at) (now (output .entry)) ⌝ }
 {
     let phase = at.phase;
     let words = at.words;
@@ -308,8 +307,8 @@ pub(crate) fn seal_end(variant: SparkleVariant, at: Point, pair: Pair, output: &
 // The end of an opening: the last bytes where the received tag is right, else zeros in their place.
 pub(crate) fn open_end(variant: SparkleVariant, at: Point, pair: Pair, output: &mut [u8]) -> End
     requires { ⌜ (paramsOf variant .key ≤ bufferedCount (paramsOf variant) (at .phase) (at .held)) × (bufferedCount (paramsOf variant) (at .phase) (at .held) ≤ paramsOf variant .rate + paramsOf variant .key) × (bufferedCount (paramsOf variant) (at .phase) (at .held) ≤ length (now output) + paramsOf variant .key) ⌝ }
-    ensures { λ r. ⌜ r ≡ openEnd (same (receivedTag (messageAt variant at pair)) (openTag (messageAt variant at pair))) (messageAt variant at pair) ⌝ }
-    ensures { λ _. ⌜ now (output .exit) ≡ written (openEndOut (same (receivedTag (messageAt variant at pair)) (openTag (messageAt variant at pair))) (messageAt variant at pair)) (now (output .entry)) ⌝ }
+    ensures { λ r. ⌜ r ≡ openEnd (paramsOf variant) (currentKey (paramsOf variant) pair) at ⌝ }
+    ensures { λ _. ⌜ now (output .exit) ≡ written (openOut (paramsOf variant) (currentKey (paramsOf variant) pair) at) (now (output .entry)) ⌝ }
 {
     let phase = at.phase;
     let words = at.words;

@@ -6,18 +6,18 @@ use Rattle.tc_sparkle_aead.proofs.aead_cipher.do_final.Statement.{state
 use Rattle.tc_sparkle_aead.proofs.aead_cipher.do_final.Tie as tie
 
 -- what is known where the direction is told
-taken : (c : tie.After-opening)
+accepted : (c : tie.After-opening)
     → Accepted
     (c .before .before .before .before .before .before .before .before .before .args .e)
     (c .before .before .before .begin-data .result)
     (c .before .before .before .before .before .before .before .before .before .args .output .now)
     (c .before .before .before .before .enum-told .given .0 .0) (c .opening .result)
-taken c =
-    let beginPoint = c .before .before .before in
-    let told = beginPoint .before in
+accepted c =
+    let begun = c .before .before .before in
+    let told = begun .before in
     record {
       passed = sym (told .before .before .end-check .ensures) ∙ told .enum-told .given .1;
-      begins = beginPoint .begin-data .ensures;
+      begins = begun .begin-data .ensures;
       direction = c .opening .ensures;
     }
 
@@ -30,7 +30,7 @@ returns c =
     )
 
 open-end-requires : tie.Need-open-end-requires
-open-end-requires c κs = open-fits (taken (c .before .before)) (c .before .if1 .taken)
+open-end-requires c κs = open-fits (accepted (c .before .before)) (c .before .if1 .taken)
 
 returns-2 : tie.Need-returns-2
 returns-2 c =
@@ -38,14 +38,14 @@ returns-2 c =
     let branch = end .before .before in
     let first = branch .before .before in
     let told = first .before .before .before in
-    let t = taken (branch .before) in (
+    let t = accepted (branch .before) in (
       final-opened t (branch .if1 .taken) _ (told .enum-told .given .1) _ (first .begin-steps .ensures) _ _
           (end .open-end .ensures .0) _ (c .finish .ensures),
       final-opened-out t (branch .if1 .taken) _ (end .open-end .ensures .1),
     )
 
 seal-end-requires : tie.Need-seal-end-requires
-seal-end-requires c κs = seal-fits (taken (c .before .before)) (c .before .if1 .left)
+seal-end-requires c κs = seal-fits (accepted (c .before .before)) (c .before .if1 .left)
 
 returns-3 : tie.Need-returns-3
 returns-3 c =
@@ -53,7 +53,7 @@ returns-3 c =
     let branch = end .before .before in
     let first = branch .before .before in
     let told = first .before .before .before in
-    let t = taken (branch .before) in (
+    let t = accepted (branch .before) in (
       final-sealed t (branch .if1 .left) _ (told .enum-told .given .1) _ (first .begin-steps .ensures) _ _
           (end .seal-end .ensures .0) _ (c .finish2 .ensures),
       final-sealed-out t (branch .if1 .left) _ (end .seal-end .ensures .1),

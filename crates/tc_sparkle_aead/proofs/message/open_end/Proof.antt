@@ -8,7 +8,7 @@ use lib.ListN.{length, take, drop}
 use lib.Seq.{take-take}
 use Rattle.schwaemm.specs.Bytes.{same}
 use Rattle.tc_sparkle_aead.specs.Message.{zeros}
-use Rattle.tc_sparkle_aead.specs.Calls.{messageAt}
+use Rattle.tc_sparkle_aead.specs.Engine.{currentKey}
 use Rattle.tc_aead_cipher.proofs.VariantLaws.{small}
 use Rattle.tc_sparkle_aead.proofs.EndLaws.{Opening, opening-is, opened, opened-out, unopened, unopened-out}
 use Rattle.tc_sparkle_aead.proofs.message.open_end.Statement.{statement}
@@ -56,10 +56,9 @@ put-requires-2 c κs = omega (arith, fits (c .before .before .before .before .be
 -- what is computed before the verdict's branch
 computed : (c : tie.After-same-bytes)
     → Opening
-    (messageAt
     (c .before .before .before .before .before .before .before .before .before .before .before .before .before .before .args .variant)
     (c .before .before .before .before .before .before .before .before .before .before .before .before .before .before .args .at)
-    (c .before .before .before .before .before .before .before .before .before .before .before .before .before .before .args .pair))
+    (c .before .before .before .before .before .before .before .before .before .before .before .before .before .before .args .pair .key)
     (c .before .before .before .before .before .before .before .before .buffered-count .result
     - c .before .before .before .before .before .before .before .before .before .tag-bytes .result)
     (c .before .before .before .before .before .before .before .crypt .result)
@@ -76,7 +75,7 @@ computed c =
     let body = counted .buffered-count .result - n in
     let part = take (64 - body) (drop body (s .args .at .buffer)) in
     let verdict : c .same-bytes .result ≡ same (take n part) (take n (made .make-tag .result)) = c .same-bytes .ensures in
-    opening-is (messageAt (s .args .variant) (s .args .at) (s .args .pair)) (words-long s) (buffer-long s) (key-long s) _ _
+    opening-is (s .args .variant) (s .args .at) (s .args .pair .key) (words-long s) (buffer-long s) (key-long s) _ _
     held size (omega (arith, held, size, s .pre)) (omega (arith, held, s .pre)) _ _ _ _ _
     (made .before .before .crypt .ensures) (made .before .last-words .ensures) (made .make-tag .ensures)
     (c .before .before .before .before .last-steps .ensures)
@@ -85,6 +84,7 @@ computed c =
     (take-take n (64 - body) (drop body (s .args .at .buffer)) (omega (arith, fits counted))))
 
 returns : tie.Need-returns
+unfolding currentKey
 returns c =
     let put = c .before .before in
     let branch = put .before .before .before in
@@ -92,7 +92,7 @@ returns c =
     (opened o (branch .if1 .taken), opened-out o _ _ (branch .if1 .taken) (put .put .ensures))
 
 returns-2 : tie.Need-returns-2
-unfolding zeros
+unfolding zeros currentKey
 returns-2 c =
     let put = c .before .before .before in
     let branch = put .before .before .before in

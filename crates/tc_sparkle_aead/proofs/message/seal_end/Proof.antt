@@ -3,7 +3,7 @@ use mathlib.Core.Path.{_≡_}
 use native.Mathlib.Omega.{arith}
 use borrow.Author.Needs.{needs}
 use lib.ListN.{length}
-use Rattle.tc_sparkle_aead.specs.Calls.{messageAt}
+use Rattle.tc_sparkle_aead.specs.Engine.{currentKey}
 use Rattle.tc_aead_cipher.proofs.VariantLaws.{small}
 use Rattle.tc_sparkle_aead.proofs.EndLaws.{sealed, sealed-out}
 use Rattle.tc_sparkle_aead.proofs.message.seal_end.Statement.{statement}
@@ -39,17 +39,20 @@ put-requires-2 c κs =
     )
 
 returns : tie.Need-returns
+unfolding currentKey
 returns c =
     let tagged = c .before .before .before in
     let put = tagged .before .before .before .before .before .before in
     let made = put .before .before .before in
     let counted = made .before .before .before in
     let s = counted .before .before .before .before .before in
-    let m = messageAt (s .args .variant) (s .args .at) (s .args .pair) in
+    let v = s .args .variant in
+    let at = s .args .at in
+    let key = s .args .pair .key in
     let held = counted .buffered-count .ensures in (
-      sealed m (words-long s) (buffer-long s) (key-long s) _ held _ _ (made .before .last-words .ensures)
+      sealed v at key (words-long s) (buffer-long s) (key-long s) _ held _ _ (made .before .last-words .ensures)
           (made .make-tag .ensures) _ (c .last-steps .ensures),
-      sealed-out m (words-long s) (buffer-long s) (key-long s) _ held _ _ (made .before .last-words .ensures)
+      sealed-out v at key (words-long s) (buffer-long s) (key-long s) _ held _ _ (made .before .last-words .ensures)
           (made .make-tag .ensures) _ _ _ _ _ (omega (arith, held, s .pre)) (made .before .before .crypt .ensures)
           (put .put .ensures) (tagged .before .tag-bytes .ensures) (tagged .put2 .ensures),
     )
