@@ -20,13 +20,13 @@ pub fn init(
     direction: Direction,
     key: &[u8],
     nonce: &[u8],
-    size: usize,
-    header: &[u8],
+    mac_size: usize,
+    initial_aad: &[u8],
 ) -> AeadInitResult
-    ensures { λ r. ⌜ (r ≡ init (now (e .entry)) direction (now (key .entry)) (now (nonce .entry)) size (now (header .entry)) .answer)
-        × (now (e .exit) ≡ init (now (e .entry)) direction (now (key .entry)) (now (nonce .entry)) size (now (header .entry)) .engine) ⌝ }
+    ensures { λ r. ⌜ (r ≡ init (now (e .entry)) direction (now (key .entry)) (now (nonce .entry)) «mac_size» (now («initial_aad» .entry)) .answer)
+        × (now (e .exit) ≡ init (now (e .entry)) direction (now (key .entry)) (now (nonce .entry)) «mac_size» (now («initial_aad» .entry)) .engine) ⌝ }
 {
-    let done = aead_cipher::init(*e, direction, key, nonce, size, header);
+    let done = aead_cipher::init(*e, direction, key, nonce, mac_size, initial_aad);
     *e = done.engine;
     done.answer
 }

@@ -22,15 +22,15 @@ pub fn init(
     direction: Direction,
     key: &[u8],
     nonce: &[u8],
-    size: usize,
-    header: &[u8],
+    mac_size: usize,
+    initial_aad: &[u8],
 ) -> Started
-    ensures { λ r. ⌜ r ≡ init e direction (now (key .entry)) (now (nonce .entry)) size (now (header .entry)) ⌝ }
+    ensures { λ r. ⌜ r ≡ init e direction (now (key .entry)) (now (nonce .entry)) «mac_size» (now («initial_aad» .entry)) ⌝ }
 {
     let variant = e.variant;
     let pair = e.pair;
     let again = engine::repeats(variant, pair, key, nonce);
-    let answer = checks::start_check(variant, direction, key.len(), nonce.len(), size, again);
+    let answer = checks::start_check(variant, direction, key.len(), nonce.len(), mac_size, again);
     let AeadInitResult::Ok = answer else {
         return Started {
             answer,
@@ -39,7 +39,7 @@ pub fn init(
     };
     Started {
         answer,
-        engine: engine::start(variant, direction, key, nonce, header),
+        engine: engine::start(variant, direction, key, nonce, initial_aad),
     }
 }
 

@@ -11,7 +11,7 @@ returns c =
     let told = c .before in
     let check = told .before .before in
     let s = check .before .before .before .before .before .before .args in
-    init-refused (s .e) (s .direction) (s .key .now) (s .nonce .now) (s .size) (s .header .now) _ _ _
+    init-refused (s .e) (s .direction) (s .key .now) (s .nonce .now) (s .mac-size) (s .initial-aad .now) _ _ _
     (check .before .repeats .ensures) (check .start-check .ensures) _ (told .enum-told2 .given .1) (c .refused .ensures)
 
 start-requires : tie.Need-start-requires
@@ -23,9 +23,9 @@ returns-2 c =
     let told = c .before in
     let check = told .before .before in
     let s = check .before .before .before .before .before .before .args in
-    init-taken (s .e) (s .direction) (s .key .now) (s .nonce .now) (s .size) (s .header .now) _ _ _
+    init-taken (s .e) (s .direction) (s .key .now) (s .nonce .now) (s .mac-size) (s .initial-aad .now) _ _ _
     (check .before .repeats .ensures) (check .start-check .ensures) (told .enum-told .given .1)
-    (c .start .ensures ∙ started-by-variant (s .e) (s .direction) (s .key .now) (s .nonce .now) (s .header .now))
+    (c .start .ensures ∙ started-by-variant (s .e) (s .direction) (s .key .now) (s .nonce .now) (s .initial-aad .now))
 
 pub init-spec : {M : Type 1} → statement M
 init-spec =
