@@ -14,8 +14,8 @@ use denote.Triple.Entry.{Args}
 use denote.Triple.Walked.{onExit}
 use denote.Triple.Clauses.{Ended, Clauses, AtExit, atExit, closing}
 use Rattle.tc_sparkle_aead.proofs.engine.SparkleEngine.Laws as E′
-use Rattle.tc_sparkle_aead.proofs.aead_error.AeadResult as N
-use Rattle.tc_sparkle_aead.proofs.aead_error.AeadResult.Laws as N′
+use Rattle.tc_aead_cipher.proofs.aead_error.AeadResult as N
+use Rattle.tc_aead_cipher.proofs.aead_error.AeadResult.Laws as N′
 
 module _ (answer : SparkleEngine → ℕ → AeadResult) (g : Name) where
   abbrev pub ended : Ended

@@ -89,10 +89,10 @@ use Rattle.tc_sparkle_aead.proofs.engine.Done as D
 use Rattle.tc_sparkle_aead.proofs.engine.Done.Laws as D′
 use Rattle.tc_sparkle_aead.proofs.engine.Started as S
 use Rattle.tc_sparkle_aead.proofs.engine.Started.Laws as S′
-use Rattle.tc_sparkle_aead.proofs.aead_error.AeadResult as N
-use Rattle.tc_sparkle_aead.proofs.aead_error.AeadResult.Laws as N′
-use Rattle.tc_sparkle_aead.proofs.aead_init_error.AeadInitResult as I
-use Rattle.tc_sparkle_aead.proofs.aead_init_error.AeadInitResult.Laws as I′
+use Rattle.tc_aead_cipher.proofs.aead_error.AeadResult as N
+use Rattle.tc_aead_cipher.proofs.aead_error.AeadResult.Laws as N′
+use Rattle.tc_aead_cipher.proofs.aead_init_error.AeadInitResult as I
+use Rattle.tc_aead_cipher.proofs.aead_init_error.AeadInitResult.Laws as I′
 
 -- ---- machine values
 -- of a struct of two fields

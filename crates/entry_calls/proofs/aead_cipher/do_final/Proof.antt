@@ -7,7 +7,7 @@ use contract.Running.{tablesOf}
 use Rattle.tc_sparkle_aead.specs.Calls.{doFinal, doFinalOut}
 use Rattle.tc_sparkle_aead.proofs.engine.Done as D
 use Rattle.tc_sparkle_aead.proofs.engine.Done.Laws as D′
-use Rattle.tc_sparkle_aead.proofs.aead_error.AeadResult as N
+use Rattle.tc_aead_cipher.proofs.aead_error.AeadResult as N
 use Rattle.tc_sparkle_aead.proofs.aead_cipher.do_final as g
 use Rattle.tc_sparkle_aead.proofs.aead_cipher.do_final.Symbol as g-def
 use Rattle.tc_sparkle_aead.proofs.aead_cipher.do_final.Met as g-thm

@@ -7,11 +7,11 @@ use denote.Enum.Laws as EL
 use contract.Running.{tablesOf}
 use Rattle.tc_sparkle_aead.specs.Calls.{init as started}
 use Rattle.tc_aead_cipher.specs.declared.phase.Direction.{Direction}
-use Rattle.tc_sparkle_aead.proofs.phase.Direction as P
-use Rattle.tc_sparkle_aead.proofs.phase.Direction.Laws as P′
+use Rattle.tc_aead_cipher.proofs.phase.Direction as P
+use Rattle.tc_aead_cipher.proofs.phase.Direction.Laws as P′
 use Rattle.tc_sparkle_aead.proofs.engine.Started as S
 use Rattle.tc_sparkle_aead.proofs.engine.Started.Laws as S′
-use Rattle.tc_sparkle_aead.proofs.aead_init_error.AeadInitResult as I
+use Rattle.tc_aead_cipher.proofs.aead_init_error.AeadInitResult as I
 use Rattle.tc_sparkle_aead.proofs.aead_cipher.init as g
 use Rattle.tc_sparkle_aead.proofs.aead_cipher.init.Symbol as g-def
 use Rattle.tc_sparkle_aead.proofs.aead_cipher.init.Met as g-thm

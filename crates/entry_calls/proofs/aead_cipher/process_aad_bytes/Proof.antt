@@ -7,7 +7,7 @@ use contract.Running.{tablesOf}
 use Rattle.tc_sparkle_aead.specs.Calls.{processAadBytes}
 use Rattle.tc_sparkle_aead.proofs.engine.Done as D
 use Rattle.tc_sparkle_aead.proofs.engine.Done.Laws as D′
-use Rattle.tc_sparkle_aead.proofs.aead_error.AeadResult as N
+use Rattle.tc_aead_cipher.proofs.aead_error.AeadResult as N
 use Rattle.tc_sparkle_aead.proofs.aead_cipher.process_aad_bytes as g
 use Rattle.tc_sparkle_aead.proofs.aead_cipher.process_aad_bytes.Symbol as g-def
 use Rattle.tc_sparkle_aead.proofs.aead_cipher.process_aad_bytes.Met as g-thm

@@ -4,8 +4,8 @@ use Rattle.entry_calls.proofs.Lent.{refl, tripleOf, givenOf, tables, en
 use Rattle.entry_calls.proofs.Query.{query}
 use contract.Running.{tablesOf}
 use denote.Enum.Laws as EL
-use Rattle.tc_sparkle_aead.proofs.variant.SparkleVariant as T
-use Rattle.tc_sparkle_aead.proofs.variant.SparkleVariant.Laws as T′
+use Rattle.tc_aead_cipher.proofs.variant.SparkleVariant as T
+use Rattle.tc_aead_cipher.proofs.variant.SparkleVariant.Laws as T′
 use Rattle.tc_sparkle_aead.proofs.engine.variant as g
 use Rattle.tc_sparkle_aead.proofs.engine.variant.Symbol as g-def
 use Rattle.tc_sparkle_aead.proofs.engine.variant.Met as g-thm

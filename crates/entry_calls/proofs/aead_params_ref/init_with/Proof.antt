@@ -17,9 +17,9 @@ use denote.Struct.Values.{Values}
 use denote.Triple.Walked.{gave-ref, goes-gave-ref}
 use Rattle.tc_sparkle_aead.specs.Calls.{init as started}
 use Rattle.tc_aead_cipher.specs.declared.phase.Direction.{Direction}
-use Rattle.tc_sparkle_aead.proofs.phase.Direction as P
-use Rattle.tc_sparkle_aead.proofs.phase.Direction.Laws as P′
-use Rattle.tc_sparkle_aead.proofs.aead_init_error.AeadInitResult as I
+use Rattle.tc_aead_cipher.proofs.phase.Direction as P
+use Rattle.tc_aead_cipher.proofs.phase.Direction.Laws as P′
+use Rattle.tc_aead_cipher.proofs.aead_init_error.AeadInitResult as I
 use Rattle.entry_calls.specs.declared.aead_params_ref.AeadParamsRef.{AeadParamsRef}
 use Rattle.entry_calls.proofs.aead_params_ref.AeadParamsRef as T
 use Rattle.entry_calls.proofs.aead_params_ref.AeadParamsRef.Laws as T′
@@ -169,4 +169,4 @@ init-with-spec 𝓤 H 𝓜 𝓖 𝓡 =
     entered 𝓤 H (tripleOf 𝓤 H (𝓖 .A) f.signature (f.spec 𝓤 H (𝓖 .A) (𝓜 .mem) (𝓡 .run)))
     (tables 𝓤 H 𝓜 𝓡 code.env .C) (tables 𝓤 H 𝓜 𝓡 code.env .Λ) name code.function (code.unfolded 𝓤 H 𝓜 𝓡)
     (f-meets 𝓤 H (𝓖 .A) (givenOf 𝓤 H 𝓜 𝓖) (𝓜 .mem) (𝓡 .run) (tablesOf 𝓤 H 𝓜 (tables 𝓤 H 𝓜 𝓡 code.env))
-    (cited 𝓤 H (Callee 𝓤 H (𝓖 .A) (givenOf 𝓤 H 𝓜 𝓖) (𝓜 .mem) (𝓡 .run)) 𝓜 𝓡 code.env g-def.name g-def.routine code.calls-tc-aead-cipher·aead-cipher·init (g-thm.met 𝓤 H 𝓜 𝓖 𝓡)))
+    (cited 𝓤 H (Callee 𝓤 H (𝓖 .A) (givenOf 𝓤 H 𝓜 𝓖) (𝓜 .mem) (𝓡 .run)) 𝓜 𝓡 code.env g-def.name g-def.routine code.calls-entry-calls·aead-cipher·init (g-thm.met 𝓤 H 𝓜 𝓖 𝓡)))

@@ -23,4 +23,4 @@ mac-spec 𝓤 H 𝓜 𝓖 𝓡 =
     (own-query T.the-row T′.mir macOf g-def.name 𝓤 H (𝓖 .A) (givenOf 𝓤 H 𝓜 𝓖)
     (λ r v is. LL.lawful T.the-type T′.the-laws 𝓤 H (𝓖 .A) (givenOf 𝓤 H 𝓜 𝓖) .typed r _ is .0)
     (tablesOf 𝓤 H 𝓜 (tables 𝓤 H 𝓜 𝓡 code.env))
-    (cited 𝓤 H (tripleOf 𝓤 H (𝓖 .A) g.signature (g.spec 𝓤 H (𝓖 .A) (𝓜 .mem) (𝓡 .run))) 𝓜 𝓡 code.env g-def.name g-def.routine code.calls-tc-aead-cipher·aead-cipher·mac (g-thm.met 𝓤 H 𝓜 𝓖 𝓡)))
+    (cited 𝓤 H (tripleOf 𝓤 H (𝓖 .A) g.signature (g.spec 𝓤 H (𝓖 .A) (𝓜 .mem) (𝓡 .run))) 𝓜 𝓡 code.env g-def.name g-def.routine code.calls-entry-calls·aead-cipher·mac (g-thm.met 𝓤 H 𝓜 𝓖 𝓡)))

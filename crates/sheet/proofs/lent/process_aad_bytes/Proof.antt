@@ -9,8 +9,8 @@ use denote.Struct.Laws as LL
 use Rattle.tc_sparkle_aead.specs.Calls.{processAadBytes}
 use Rattle.tc_sparkle_aead.proofs.engine.Done as D
 use Rattle.tc_sparkle_aead.proofs.engine.Done.Laws as D′
-use Rattle.tc_sparkle_aead.proofs.aead_error.AeadResult as N
-use Rattle.tc_sparkle_aead.proofs.aead_error.AeadResult.Laws as N′
+use Rattle.tc_aead_cipher.proofs.aead_error.AeadResult as N
+use Rattle.tc_aead_cipher.proofs.aead_error.AeadResult.Laws as N′
 use Rattle.entry_calls.proofs.aead_cipher.process_aad_bytes as g
 use Rattle.entry_calls.proofs.aead_cipher.process_aad_bytes.Symbol as g-def
 use Rattle.entry_calls.proofs.aead_cipher.process_aad_bytes.Met as g-thm
@@ -105,4 +105,4 @@ process-aad-bytes-spec 𝓤 H 𝓜 𝓖 𝓡 =
     entered 𝓤 H (tripleOf 𝓤 H (𝓖 .A) f.signature (f.spec 𝓤 H (𝓖 .A) (𝓜 .mem) (𝓡 .run)))
     (tables 𝓤 H 𝓜 𝓡 code.env .C) (tables 𝓤 H 𝓜 𝓡 code.env .Λ) name code.function (code.unfolded 𝓤 H 𝓜 𝓡)
     (f-meets 𝓤 H (𝓖 .A) (givenOf 𝓤 H 𝓜 𝓖) (𝓜 .mem) (𝓡 .run) (tablesOf 𝓤 H 𝓜 (tables 𝓤 H 𝓜 𝓡 code.env))
-    (cited 𝓤 H (Callee 𝓤 H (𝓖 .A) (givenOf 𝓤 H 𝓜 𝓖) (𝓜 .mem) (𝓡 .run)) 𝓜 𝓡 code.env g-def.name g-def.routine code.calls-tc-aead-cipher·aead-cipher·process-aad-bytes (g-thm.met 𝓤 H 𝓜 𝓖 𝓡)))
+    (cited 𝓤 H (Callee 𝓤 H (𝓖 .A) (givenOf 𝓤 H 𝓜 𝓖) (𝓜 .mem) (𝓡 .run)) 𝓜 𝓡 code.env g-def.name g-def.routine code.calls-entry-calls·aead-cipher·process-aad-bytes (g-thm.met 𝓤 H 𝓜 𝓖 𝓡)))

@@ -22,4 +22,4 @@ steps-spec 𝓤 H 𝓜 𝓖 𝓡 =
     (own-query u64 (tyInt w64) stepsNow g-def.name 𝓤 H (𝓖 .A) (givenOf 𝓤 H 𝓜 𝓖)
     (λ r v is. uint-lawful 𝓤 H (𝓖 .A) (givenOf 𝓤 H 𝓜 𝓖) w64 .typed r _ is .0)
     (tablesOf 𝓤 H 𝓜 (tables 𝓤 H 𝓜 𝓡 code.env))
-    (cited 𝓤 H (tripleOf 𝓤 H (𝓖 .A) g.signature (g.spec 𝓤 H (𝓖 .A) (𝓜 .mem) (𝓡 .run))) 𝓜 𝓡 code.env g-def.name g-def.routine code.calls-tc-aead-cipher·aead-cipher·steps (g-thm.met 𝓤 H 𝓜 𝓖 𝓡)))
+    (cited 𝓤 H (tripleOf 𝓤 H (𝓖 .A) g.signature (g.spec 𝓤 H (𝓖 .A) (𝓜 .mem) (𝓡 .run))) 𝓜 𝓡 code.env g-def.name g-def.routine code.calls-entry-calls·aead-cipher·steps (g-thm.met 𝓤 H 𝓜 𝓖 𝓡)))
