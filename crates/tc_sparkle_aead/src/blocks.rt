@@ -193,12 +193,8 @@ pub(crate) fn absorb_blocks(
     let mut pos = 0;
     let mut left = count;
     while 0 < left {
-        let next = mix_words(
-            variant,
-            v,
-            bytes::load(buffer, held, input, pos, rate),
-            slim,
-        );
+        let block = bytes::load(buffer, held, input, pos, rate);
+        let next = mix_words(variant, v, block, slim);
         v = next;
         pos += rate;
         left -= 1;
