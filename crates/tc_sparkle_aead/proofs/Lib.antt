@@ -17,3 +17,4 @@ pub mod DataLaws
 pub mod EndLaws
 pub mod FinalLaws
 pub mod WorkedExamples
+pub mod WorkedSheet

@@ -3,3 +3,4 @@ pub mod Message
 pub mod Engine
 pub mod Calls
 pub mod Sheet
+pub mod Worked
