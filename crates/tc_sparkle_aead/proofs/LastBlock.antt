@@ -1,7 +1,7 @@
 -- The last block in the engine's arrays: its padding, the domain constant in the state, and that both make `mixLast`.
-use mathlib.Core.Path.{_≡_, refl, sym, ap, _∙_}
+use mathlib.Core.Path.{_≡_, sym, ap, _∙_}
 use mathlib.Core.List.{List, _∷_, _++_, append-assoc}
-use Prim.Native.Nat.{ℕ, suc, _+_, _-_, _<_, _≤_}
+use Prim.Native.Nat.{ℕ, suc, _+_, _-_, _<_}
 use native.Mathlib.Omega.{arith}
 use lib.ListN.{length, take, drop, getD, set, replicate, length-append, length-replicate, take-append-drop, replicate-append-replicate}
 use lib.Seq.{length-take-le, set-at, set-append-left, getD-take}

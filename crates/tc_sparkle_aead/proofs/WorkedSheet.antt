@@ -2,8 +2,7 @@
 -- call has this one. By computing: no line needs the permutation.
 use mathlib.Core.Path.{_≡_, refl}
 use mathlib.Core.Bool.{true, false}
-use mathlib.Core.List.{List, [], _∷_}
-use lib.ListN.{length}
+use mathlib.Core.List.{[], _∷_}
 use Rattle.schwaemm.specs.Bytes.{same}
 use Rattle.schwaemm.specs.Blocks.{ready, held}
 use Rattle.tc_aead_cipher.specs.declared.variant.SparkleVariant.the-variants.{«Schwaemm128_128»}

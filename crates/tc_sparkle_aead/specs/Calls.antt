@@ -1,12 +1,10 @@
 -- The calls: for every engine value, the answer, the engine afterwards and the lent output (document 01, "At the entry:
 -- phase and call" and "Down to the block"). A call that is refused with 4, 5 or 7 to 10 leaves engine and output as they were.
-use Prim.Native.Nat.{ℕ, _+_, _-_, _%_, _^_}
+use Prim.Native.Nat.{ℕ, _+_, _%_, _^_}
 use mathlib.Core.Bool.{Bool, true, false, cond}
-use mathlib.Core.List.{List, [], _∷_, _++_}
-use lib.ListN.{length, take, drop}
-use Rattle.schwaemm.specs.Bytes.{same}
+use mathlib.Core.List.{List, [], _∷_}
+use lib.ListN.{length}
 use Rattle.schwaemm.specs.Blocks.{held}
-use Rattle.schwaemm.specs.Schwaemm.{crypt, tagOf}
 use Rattle.tc_aead_cipher.specs.declared.phase.Direction.{Direction}
 use Rattle.tc_aead_cipher.specs.declared.phase.Direction.the-variants.{Encrypt, Decrypt}
 use Rattle.tc_aead_cipher.specs.declared.phase.Phase.{Phase}
@@ -16,21 +14,18 @@ use Rattle.tc_aead_cipher.specs.declared.aead_error.AeadResult.{AeadResult}
 use Rattle.tc_aead_cipher.specs.declared.aead_error.AeadResult.the-variants.{Ok, Err}
 use Rattle.tc_aead_cipher.specs.declared.aead_init_error.AeadInitResult.{AeadInitResult}
 use Rattle.tc_aead_cipher.specs.declared.aead_init_error.AeadInitResult.the-variants.{Ok as StartOk, Err as StartErr}
-use Rattle.tc_aead_cipher.specs.declared.variant.SparkleVariant.{SparkleVariant}
 use Rattle.tc_sparkle_aead.specs.declared.message.Point.{Point}
-use Rattle.tc_sparkle_aead.specs.declared.engine.Pair.{Pair}
 use Rattle.tc_sparkle_aead.specs.declared.engine.Mac.{Mac}
 use Rattle.tc_sparkle_aead.specs.declared.engine.Steps.{Steps}
 use Rattle.tc_sparkle_aead.specs.declared.engine.SparkleEngine.{SparkleEngine}
 use Rattle.tc_sparkle_aead.specs.declared.engine.Done.{Done}
-use Rattle.tc_sparkle_aead.specs.declared.message.End.{End}
 use Rattle.tc_sparkle_aead.specs.declared.engine.Started.{Started}
 use Rattle.tc_aead_cipher.specs.Variant.{paramsOf}
 use Rattle.tc_aead_cipher.specs.Checks.{opening, aadCheck, dataCheck, endCheck, startCheck}
-use Rattle.tc_sparkle_aead.specs.Message.{zeros, noMessage, noMac, stateIn, buffered, startPoint, absorbHeader, headerSteps, withoutHeader, afterHeader, dataFrom, streamOut, written, finalPoint, sealEnd, sealOut, verifies, openEndBy, openOut, resetPoint}
-use Rattle.tc_sparkle_aead.specs.Engine.{repeats, remember, currentKey, noSteps, refusedSteps, initSteps, resetSteps}
+use Rattle.tc_sparkle_aead.specs.Message.{noMessage, noMac, startPoint, absorbHeader, headerSteps, withoutHeader, afterHeader, dataFrom, streamOut, written, finalPoint, sealEnd, sealOut, verifies, openEndBy, openOut, resetPoint}
+use Rattle.tc_sparkle_aead.specs.Engine.{repeats, remember, currentKey, refusedSteps, initSteps, resetSteps}
 
--- ---- A point of a message
+-- ---- The engine at a point of its message
 
 -- Steps are added modulo 2^64.
 unfoldable pub addSteps : ℕ → Steps → Steps
@@ -62,6 +57,7 @@ refused e =
       steps = refusedSteps (e .steps);
     }
 
+-- A start that is taken loads its pair and absorbs its header.
 unfoldable pub started : SparkleEngine → Direction → List ℕ → List ℕ → List ℕ → SparkleEngine
 started e d key nonce header =
     let p = paramsOf (e .variant) in
@@ -118,6 +114,7 @@ beginBy (Final d) e = e
 unfoldable pub beginData : SparkleEngine → SparkleEngine
 beginData e = beginBy (e .current .phase) e
 
+-- Data in phase Data: the engine afterwards, and what is written.
 unfoldable pub dataIn : SparkleEngine → List ℕ → SparkleEngine
 dataIn e input =
     let r = dataFrom (paramsOf (e .variant)) (e .current) input in atPoint e (r .point) (r .steps)
@@ -211,6 +208,7 @@ doFinalOut e out = finalOutBy (finalAnswer e (length out)) e out
 
 -- ---- reset and mac
 
+-- A reset drops the readable tag.
 unfoldable pub reset : SparkleEngine → SparkleEngine
 reset e =
     record {

@@ -4,20 +4,22 @@ use Prim.Native.Nat.{ℕ, _+_, _-_, _*_, _/_, min}
 use mathlib.Core.Bool.{Bool, true, false, cond}
 use mathlib.Core.List.{List, _++_, [], _∷_}
 use lib.ListN.{take, replicate, length, drop, getD}
-use Rattle.schwaemm.specs.Schwaemm.{Params, crypt, mixLast, initialise, absorbBlock, sealing as sealingBlock, opening as openingBlock, messageBlock, tagOf}
-use Rattle.tc_aead_cipher.specs.declared.phase.Phase.the-variants.{Uninitialized, Init, Aad, Data, Final}
-use Rattle.tc_sparkle_aead.specs.declared.message.Point.{Point}
-use Rattle.tc_sparkle_aead.specs.declared.engine.Mac.{Mac}
 use lib.Dec.{ltb}
 use lib.Bits.{bitXor}
+use Rattle.schwaemm.specs.Schwaemm.{Params, crypt, mixLast, initialise, absorbBlock, sealing as sealingBlock, opening as openingBlock, messageBlock, tagOf}
 use Rattle.schwaemm.specs.Bytes.{ifEmpty, same}
 use Rattle.schwaemm.specs.Blocks.{ready, after, given, held}
+use Rattle.tc_aead_cipher.specs.declared.phase.Phase.the-variants.{Uninitialized, Init, Aad, Data, Final}
 use Rattle.tc_aead_cipher.specs.declared.phase.Direction.{Direction}
 use Rattle.tc_aead_cipher.specs.declared.phase.Direction.the-variants.{Encrypt, Decrypt}
 use Rattle.tc_aead_cipher.specs.declared.phase.Phase.{Phase}
+use Rattle.tc_aead_cipher.specs.Checks.{opening, keep, heldData}
+use Rattle.tc_sparkle_aead.specs.declared.message.Point.{Point}
+use Rattle.tc_sparkle_aead.specs.declared.engine.Mac.{Mac}
 use Rattle.tc_sparkle_aead.specs.declared.message.Progress.{Progress}
 use Rattle.tc_sparkle_aead.specs.declared.message.End.{End}
-use Rattle.tc_aead_cipher.specs.Checks.{opening, keep, heldData}
+
+-- ---- Arrays
 
 -- n zeros, and a list in an array of n: zeros behind it, and cut where it is longer.
 unfoldable pub zeros : ℕ → List ℕ
@@ -25,6 +27,8 @@ zeros n = replicate n 0
 
 unfoldable pub inArray : ℕ → List ℕ → List ℕ
 inArray n l = take n (l ++ zeros n)
+
+-- ---- A point of a message
 
 -- No message: Uninitialized, everything wiped.
 unfoldable pub noMessage : Point
@@ -84,6 +88,8 @@ streamed p keep step phase at input =
       held = length (held (p .rate) keep (stream p at input));
     }
 
+-- ---- The start and the header
+
 -- The point after the start, before the initial header.
 unfoldable pub startPoint : Params → Direction → List ℕ → List ℕ → Point
 startPoint p d key nonce =
@@ -97,6 +103,8 @@ absorbHeader p d at (x ∷ header) = streamed p 0 (absorbBlock p) (Aad d) at (x 
 -- The steps that this runs.
 unfoldable pub headerSteps : Params → Point → List ℕ → ℕ
 headerSteps p at header = blockCount p 0 at header * p .slim
+
+-- ---- The data
 
 -- Where the data begins: without a header; and after one, whose last block is taken up.
 unfoldable pub withoutHeader : Direction → Point → Point
@@ -133,7 +141,7 @@ plainBy p opens = cond opens (openingBlock p) (sealingBlock p)
 unfoldable pub plainOf : Params → Phase → List ℕ → List ℕ → List ℕ
 plainOf p phase = plainBy p (opening phase)
 
--- Data in phase Data: where it leads, the engine afterwards, and what is written.
+-- Data in phase Data: where it leads, and what is written.
 abbrev pub dataFrom : Params → Point → List ℕ → Progress
 dataFrom p at input =
     let phase = at .phase in
@@ -151,10 +159,13 @@ streamOut p at input =
 unfoldable pub written : List ℕ → List ℕ → List ℕ
 written bytes out = bytes ++ drop (length bytes) out
 
+-- ---- The end
+
 -- The state after the last block, of which `plain` is taken up; as it was, where there is no block.
 unfoldable pub lastState : Params → List ℕ → List ℕ → List ℕ → List ℕ
 lastState p s block plain = ifEmpty block s (mixLast p 2 s plain)
 
+-- The steps of a last block.
 unfoldable pub lastSteps : Params → List ℕ → ℕ
 lastSteps p block = cond (ltb 0 (length block)) (p .big) 0
 
@@ -203,6 +214,8 @@ openOutBy false p at = zeros (length (openBlock p at))
 
 abbrev pub openOut : Params → (key : List ℕ) → Point → List ℕ
 openOut p key at = openOutBy (verifies p key at) p at
+
+-- ---- After the end, and after a reset
 
 -- The message has ended: words and buffer are wiped, the point after init stays.
 unfoldable pub finalPoint : Direction → Point
