@@ -13,7 +13,7 @@ use super::phase::Direction;
 use super::phase::Phase;
 use super::variant::SparkleVariant;
 
-pub fn opens(d: Direction) -> bool
+fn opens(d: Direction) -> bool
     ensures { λ r. ⌜ r ≡ opens d ⌝ }
 {
     match d {
@@ -74,7 +74,7 @@ pub fn held_data(variant: SparkleVariant, phase: Phase, held: usize) -> usize
 }
 
 // a - b, never under 0.
-pub fn saturating_sub(a: usize, b: usize) -> usize
+fn saturating_sub(a: usize, b: usize) -> usize
     ensures { λ r. ⌜ r ≡ a - b ⌝ }
 {
     if a < b { 0 } else { a - b }
@@ -120,7 +120,7 @@ pub fn total_len(variant: SparkleVariant, phase: Phase, held: usize, n: usize) -
 }
 
 // Whether a phase takes data and an end.
-pub fn phase_check(phase: Phase) -> AeadResult
+fn phase_check(phase: Phase) -> AeadResult
     ensures { λ r. ⌜ r ≡ phaseCheck phase ⌝ }
 {
     match phase {
@@ -133,7 +133,7 @@ pub fn phase_check(phase: Phase) -> AeadResult
 }
 
 // The length that a query gave, where the output holds it.
-pub fn with_room(length: AeadResult, available: usize) -> AeadResult
+fn with_room(length: AeadResult, available: usize) -> AeadResult
     ensures { λ r. ⌜ r ≡ then length (room available) ⌝ }
 {
     let AeadResult::Ok(required) = length else {
