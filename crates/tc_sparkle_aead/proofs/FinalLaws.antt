@@ -26,7 +26,7 @@ use Rattle.tc_aead_cipher.specs.Variant.{paramsOf}
 use Rattle.tc_aead_cipher.specs.Checks.{opening, keep, heldData, then, within64, room, phaseCheck, totalLen, whole, endCheck}
 use Rattle.tc_sparkle_aead.specs.Message.{noMac, readable, bufferedCount, beginPoint, beginSteps, written, sealEnd, sealOut, verifies, openEndBy, openEnd, openOut}
 use Rattle.tc_sparkle_aead.specs.Engine.{currentKey}
-use Rattle.tc_sparkle_aead.specs.Calls.{atPoint, beginData, finalEngine, finish, answered, sealFinal, openFinal, openFinalBy, finalBytes, finalBy, finalOutBy, finalAnswer, doFinal, doFinalOut}
+use Rattle.tc_sparkle_aead.specs.Calls.{atPoint, beginData, finalEngine, finish, answered, sealFinal, openFinal, openFinalBy, finalBy, finalOutBy, finalAnswer, doFinal, doFinalOut}
 use Rattle.tc_sparkle_aead.proofs.BeginLaws.{begin-held, begin-ended, begin-parts}
 
 -- ---- A check that passes.
@@ -178,7 +178,7 @@ module _ {e : SparkleEngine} {at : Point} {out : List ℕ} {n : ℕ} {opens : Bo
 
     pub final-sealed-out : (out₁ : List ℕ)
         → out₁ ≡ written (sealOut (paramsOf (e .variant)) (currentKey (paramsOf (e .variant)) (e .pair)) at) out → out₁ ≡ doFinalOut e out
-    unfolding doFinalOut finalBytes
+    unfolding doFinalOut
     final-sealed-out out₁ ed =
         rw (t .passed, sealing)
         (ed ∙ parts-are (λ (v : SparkleVariant) (pair : Pair) (x : Point).
@@ -214,7 +214,7 @@ module _ {e : SparkleEngine} {at : Point} {out : List ℕ} {n : ℕ} {opens : Bo
         ∙ open-end-by right (beginData e) n r refl)
 
     pub final-opened-out : (out₁ : List ℕ) → out₁ ≡ written (openOut (paramsOf (e .variant)) (currentKey (paramsOf (e .variant)) (e .pair)) at) out → out₁ ≡ doFinalOut e out
-    unfolding doFinalOut finalBytes
+    unfolding doFinalOut
     final-opened-out out₁ ed =
         rw (t .passed, opened)
         (ed ∙ parts-are (λ (v : SparkleVariant) (pair : Pair) (x : Point).

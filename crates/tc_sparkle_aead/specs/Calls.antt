@@ -187,7 +187,7 @@ finalBy (Err x) e = record { answer = Err x; engine = e }
 finalBy (Ok n) e = cond (opening (e .current .phase)) (openFinal (beginData e) n) (sealFinal (beginData e) n)
 
 -- What an end writes.
-unfoldable pub finalBytes : Bool → SparkleEngine → List ℕ
+abbrev pub finalBytes : Bool → SparkleEngine → List ℕ
 finalBytes opens e =
     let p = paramsOf (e .variant) in
     let key = currentKey p (e .pair) in
