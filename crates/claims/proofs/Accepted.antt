@@ -29,13 +29,14 @@ use Rattle.tc_aead_cipher.specs.Checks.{opens, opening, keep, heldData, then, w
 use Rattle.tc_sparkle_aead.specs.Message.{stateIn, stream, blockCount, plainOf, written, plainBy, streamOut}
 use Rattle.tc_sparkle_aead.specs.Calls.{beginData, dataOut, sealLast, sealTag, openBlock, openLast}
 use Rattle.tc_aead_cipher.proofs.VariantLaws.{sizes, small}
+use Rattle.claims.specs.Refused.{Active}
 use Rattle.claims.specs.Reader.{Reader, readerHeld, dataPhase}
 use Rattle.claims.specs.Messages.{released, Writes}
 use Rattle.claims.proofs.Points.{held-nil, blockPoint}
 use Rattle.claims.proofs.Packets.{packet-given}
 use Rattle.claims.proofs.Kept.{Fits, Standing, engineOf, dataPoint, pointIn, then-good, holds-data, state-data}
 use Rattle.claims.proofs.Kept.{data-given, phase-agrees}
-use Rattle.claims.proofs.Follows.{Active, kept, inData, begin-data, sealing-state, sealing-block, sealing-tag}
+use Rattle.claims.proofs.Follows.{kept, inData, begin-data, sealing-state, sealing-block, sealing-tag}
 use Rattle.claims.proofs.Follows.{opening-block, opening-last}
 
 -- ---- What passed checks say

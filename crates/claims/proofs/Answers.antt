@@ -56,7 +56,7 @@ end-answer v e r w out (Ok n) q true is =
 end-answer v e r w out (Ok n) q false is = seal-end v e r w out n q is .outcome-is
 
 pub answer-step : (v : SparkleVariant) (e : SparkleEngine) (r : Reader) → Follows v e r → (c : Call) → Asked c
-    → step e c .outcome ≡ answerOf (paramsOf v) r c
+    → step e c .outcome ≡ answerOf v r c
 unfolding answerOf
 answer-step v e r w (Call.Init d key nonce size h) a = start-outcome v e r w d key nonce size h
 answer-step v e r w (Call.Aad input) a =
@@ -70,5 +70,5 @@ answer-step v e r w (Call.Output n) a = total-outcome v e r w n
 
 -- After any list of calls.
 pub answers : (v : SparkleVariant) (calls : List Call) (c : Call) → Asked c
-    → step (run v calls) c .outcome ≡ answerOf (paramsOf v) (reader v calls) c
+    → step (run v calls) c .outcome ≡ answerOf v (reader v calls) c
 answers v calls = answer-step v (run v calls) (reader v calls) (follows-run v calls)

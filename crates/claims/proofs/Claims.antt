@@ -1,9 +1,9 @@
 -- What is claimed of the engine: every statement in full, each with the sentence of docs/00-demands.md, or of
 -- docs/01-scope.md, that it renders. The words stand in specs/; the proofs stand in the other files here and are cited.
 --
--- `step e c` is what a call's contract says of the call (specs/Call.antt); `run v calls` is the engine after a list of
--- calls from a new engine of variant v, refused calls included; `reader v calls` is what the plain reader of document 01,
--- "Two lists, two sheets", keeps of the same list (specs/Reader.antt).
+-- `step e c` is what a call's contract says of the call, and `run v calls` the engine after a list of calls from a new engine
+-- of variant v, refused calls included (specs/Sheet.antt of `crates/tc_sparkle_aead`); `reader v calls` is what the plain
+-- reader of document 01, "Two lists, two sheets", keeps of the same list (specs/Reader.antt).
 use mathlib.Core.Path.{_≡_}
 use mathlib.Core.Logic.{_↔_}
 use mathlib.Core.Bool.{true, false, cond}
@@ -223,7 +223,7 @@ readable-tag-is-the-specifications = mac-bytes
 -- 2.4, when one is shown, as document 01 says of mac, "after a successful end, until the next init or reset": on every line
 -- of every sheet a tag can be read exactly where `shownTags` says so, which goes by the calls alone.
 pub tag-readable-on-every-line : (v : SparkleVariant) (calls : List Call)
-    → map (λ (l : Line). l .readable) (sheet v calls) ≡ shownTags (paramsOf v) newReader false calls
+    → map (λ (l : Line). l .readable) (sheet v calls) ≡ shownTags v newReader false calls
 tag-readable-on-every-line = sheet-shown
 
 -- A start, refused or not, and a reset drop it, whatever the engine.
@@ -237,7 +237,7 @@ reset-drops-the-tag = reset-drops
 -- 2.5 "Proved: the step count is the specification's." On every line of every sheet it is that of document 01's formula,
 -- which `counts` works out from the calls alone.
 pub steps-of-every-line : (v : SparkleVariant) (calls : List Call)
-    → map (λ (l : Line). l .steps) (sheet v calls) ≡ counts (paramsOf v) newReader 0 calls
+    → map (λ (l : Line). l .steps) (sheet v calls) ≡ counts v newReader 0 calls
 steps-of-every-line = sheet-counted
 
 -- 2.5, by the phase. Before the end: big for the start, and for header and data what has run.
@@ -298,7 +298,7 @@ end-completes-the-bytes = finished
 pub data-call-writes-the-next-bytes : (v : SparkleVariant) (calls : List Call) (input out : List ℕ) (n : ℕ)
     → step (run v calls) (Call.Data input out) .outcome ≡ ok n
     → Writes (released (paramsOf v) (reader v calls))
-    (released (paramsOf v) (read (paramsOf v) (reader v calls) (Call.Data input out) .reader)) out
+    (released (paramsOf v) (read v (reader v calls) (Call.Data input out) .reader)) out
     (step (run v calls) (Call.Data input out) .buffer) n
 data-call-writes-the-next-bytes = message-bytes
 
@@ -311,7 +311,7 @@ end-writes-the-rest = end-bytes
 -- Document 01, "A number comes back where its line holds": the answers of every call but mac, after every list of calls, are
 -- those of its tables over what the reader keeps; the reader's phase is the engine's.
 pub answers-are-the-tables : (v : SparkleVariant) (calls : List Call) (c : Call) → Asked c
-    → step (run v calls) c .outcome ≡ answerOf (paramsOf v) (reader v calls) c
+    → step (run v calls) c .outcome ≡ answerOf v (reader v calls) c
 answers-are-the-tables = answers
 
 pub phase-is-the-readers : (v : SparkleVariant) (calls : List Call)

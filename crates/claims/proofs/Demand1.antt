@@ -24,7 +24,7 @@ use Rattle.tc_aead_cipher.specs.Variant.{paramsOf}
 use Rattle.tc_aead_cipher.specs.Checks.{opens, opening, heldData, phaseCheck, headerCheck, updateLen, totalLen, aadCheck}
 use Rattle.tc_aead_cipher.specs.Checks.{dataCheck, endCheck, startCheck}
 use Rattle.tc_sparkle_aead.specs.Message.{zeros, buffered, lastSteps, written, afterHeader, withoutHeader}
-use Rattle.tc_sparkle_aead.specs.Engine.{repeats, updateOutputLen, outputLen}
+use Rattle.tc_sparkle_aead.specs.Engine.{refusedSteps, repeats, updateOutputLen, outputLen}
 use Rattle.tc_sparkle_aead.specs.Calls.{refused, initBy, aadBy, processAadBytes, dataBy, dataOutBy, dataAnswer, finalAnswer}
 use Rattle.tc_sparkle_aead.specs.Calls.{openBlock, openEndOut, finalEngine, addSteps, processBytes}
 use Rattle.tc_sparkle_aead.specs.Calls.{processBytesOut, beginData, receivedTag, openTag, openFinal, openFinalBy, sealFinal}
@@ -235,7 +235,7 @@ module _ (e : SparkleEngine) where
   refused-comes-back c r (data-finalized q) = unfold dataCheck in rw q
   refused-comes-back c r (end-finalized q) = unfold endCheck in rw q
   refused-comes-back c r (nonce-reuse k n s loaded key nonce) =
-      rw (startCheck-sealing (paramsOf (e .variant)) Encrypt _ _ _ _ k n s refl, loaded, same-of-equal _ _ key, same-of-equal _ _ nonce)
+      rw (startCheck-sealing (e .variant) Encrypt _ _ _ _ k n s refl, loaded, same-of-equal _ _ key, same-of-equal _ _ nonce)
 
 repeats-true : (p : Params) (pair : Pair) (key nonce : List ℕ) → repeats p pair key nonce ≡ true
     → (pair .loaded ≡ true) × (take (p .key) (pair .key) ≡ key) × (take (p .rate) (pair .nonce) ≡ nonce)
@@ -249,12 +249,12 @@ module _ (e : SparkleEngine) (key nonce header : List ℕ) (size : ℕ) (k : len
     (n : length nonce ≡ rateOf e) (s : size ≡ keyOf e) where
   start-opening : step e (Call.Init Decrypt key nonce size header) .outcome ≡ ok 0
   unfolding step initCall
-  start-opening = rw (startCheck-opening (paramsOf (e .variant)) Decrypt _ _ _ _ k n s refl)
+  start-opening = rw (startCheck-opening (e .variant) Decrypt _ _ _ _ k n s refl)
 
   start-fresh : repeats (paramsOf (e .variant)) (e .pair) key nonce ≡ false
       → step e (Call.Init Encrypt key nonce size header) .outcome ≡ ok 0
   unfolding step initCall
-  start-fresh q = rw (startCheck-sealing (paramsOf (e .variant)) Encrypt _ _ _ _ k n s refl, q)
+  start-fresh q = rw (startCheck-sealing (e .variant) Encrypt _ _ _ _ k n s refl, q)
 
 data-count : (e : SparkleEngine) (d : Direction) (input out : List ℕ) → Active d (e .current .phase)
     → engineHeld e + length input < 2 ^ 64 → dataWrites d (paramsOf (e .variant)) (engineHeld e + length input) ≤ length out
@@ -498,11 +498,11 @@ module _ (e : SparkleEngine) where
   -- A refused start leaves no message, and of what was kept only the last loaded pair.
   pub start-wipes : (d : Direction) (key nonce header r : List ℕ) (size : ℕ)
       → step e (Call.Init d key nonce size header) .outcome ≡ no r → Wiped e (Call.Init d key nonce size header)
-  unfolding step initCall refused
+  unfolding step initCall refused refusedSteps
   start-wipes d key nonce header r size q =
       record {
         engine =
-            start-leaves (startCheck (paramsOf (e .variant)) d (length key) (length nonce) size
+            start-leaves (startCheck (e .variant) d (length key) (length nonce) size
             (repeats (paramsOf (e .variant)) (e .pair) key nonce)) e d key nonce header r q;
         buffer = refl;
       }

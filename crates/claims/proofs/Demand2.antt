@@ -24,7 +24,7 @@ use Rattle.tc_sparkle_aead.specs.declared.engine.SparkleEngine.{SparkleEngine}
 use Rattle.tc_aead_cipher.specs.Variant.{paramsOf}
 use Rattle.tc_aead_cipher.specs.Checks.{opening, keep, aadCheck, headerCheck, dataCheck, endCheck, startCheck}
 use Rattle.tc_sparkle_aead.specs.Message.{noMac, noMessage, readable, finalPoint}
-use Rattle.tc_sparkle_aead.specs.Engine.{noSteps, repeats, resetSteps, newEngine}
+use Rattle.tc_sparkle_aead.specs.Engine.{noSteps, refusedSteps, repeats, resetSteps, newEngine}
 use Rattle.tc_sparkle_aead.specs.Calls.{reset as resetEngine}
 use Rattle.tc_sparkle_aead.specs.Calls.{macOf, stepsNow, refused, initBy, init, aadBy, processAadBytes, dataBy, processBytes, finalBy, doFinal}
 use Rattle.tc_aead_cipher.proofs.VariantLaws.{sizes, small, keep-bound}
@@ -45,7 +45,7 @@ module _ (v : SparkleVariant) (calls : List Call) where
   -- An accepted data call writes the specification's next bytes.
   pub message-bytes : (input out : List ℕ) (n : ℕ) → step (run v calls) (Call.Data input out) .outcome ≡ Outcome.ok n
       → Writes (released (paramsOf v) (reader v calls))
-      (released (paramsOf v) (read (paramsOf v) (reader v calls) (Call.Data input out) .reader)) out
+      (released (paramsOf v) (read v (reader v calls) (Call.Data input out) .reader)) out
       (step (run v calls) (Call.Data input out) .buffer) n
   message-bytes = message-writes-next v (run v calls) (reader v calls) (follows-run v calls)
 
@@ -267,7 +267,7 @@ steps-new v = refl
 steps-start : (k : AeadInitResult) (e : SparkleEngine) (d : Direction) (key nonce header values : List ℕ)
     → startOutcome (initBy k e d key nonce header .answer) ≡ Outcome.no values
     → stepsNow (initBy k e d key nonce header .engine) ≡ 0
-unfolding stepsNow refused noSteps
+unfolding stepsNow refused refusedSteps noSteps
 steps-start StartOk e d key nonce header values o = absurd (let z : _≡_ {A = ℕ} 0 1 = cc in omega arith)
 steps-start (StartErr x) e d key nonce header values o = refl
 
@@ -277,7 +277,7 @@ pub steps-refused-start : (e : SparkleEngine) (d : Direction) (key nonce : List 
 unfolding step init
 steps-refused-start e d key nonce size header values o =
     let p = paramsOf (e .variant) in
-    steps-start (startCheck p d (length key) (length nonce) size
+    steps-start (startCheck (e .variant) d (length key) (length nonce) size
     (repeats p (e .pair) key nonce)) e d key nonce header values o
 
 -- ---- Until the next init or reset

@@ -7,7 +7,6 @@ use mathlib.Core.Bool.{Bool, true, cond}
 use mathlib.Core.List.{List, [], _∷_, map}
 use Prim.Native.Nat.{ℕ, zero, suc}
 use native.Mathlib.Omega.{arith}
-use native.Mathlib.Decide.{ℕ-discrete}
 use lib.ListN.{length, take}
 use Rattle.schwaemm.specs.Bytes.{same}
 use Rattle.schwaemm.specs.Schwaemm.{Params, verified}
@@ -25,7 +24,6 @@ use Rattle.tc_aead_cipher.specs.Variant.{paramsOf}
 use Rattle.tc_aead_cipher.specs.Checks.{opening, heldData, whole, totalLen, endCheck, startCheck}
 use Rattle.tc_sparkle_aead.specs.Engine.{newEngine, repeats}
 use Rattle.tc_sparkle_aead.specs.Calls.{beginData, receivedTag, openTag}
-use Rattle.tc_aead_cipher.proofs.CheckLaws.{startCheck-key, startCheck-nonce}
 use Rattle.tc_aead_cipher.specs.Call.{Call}
 use Rattle.claims.specs.Shape.{Shape, shape, Alike}
 use Rattle.tc_sparkle_aead.specs.Sheet.{step, Line, line, lines, sheet}
@@ -88,40 +86,23 @@ lines-and-asked xs ys e f u a = (equal-verdicts xs ys e f u a, equal-lines xs ys
 
 -- ---- The plain reader's verdicts are the engine's
 
--- What is used of an engine and the reader of the same calls: the variant, the phase and h; whether a pair of the right
--- lengths repeats; and, at an opening's end past its checks, whether the received tag is the specification's.
+-- What is used of an engine and the reader of the same calls: the variant, the phase and h; whether a pair repeats; and, at
+-- an opening's end past its checks, whether the received tag is the specification's.
 pub record Linked (v : SparkleVariant) (e : SparkleEngine) (r : Reader) : Type 0 where
   pub variant : e .variant ≡ v
   pub phase : e .current .phase ≡ r .phase
   pub held : heldData (paramsOf v) (r .phase) (e .current .held) ≡ heldData (paramsOf v) (r .phase) (readerHeld (paramsOf v) r)
-  pub pair : (key nonce : List ℕ) → length key ≡ paramsOf v .key → length nonce ≡ paramsOf v .rate
-      → repeats (paramsOf v) (e .pair) key nonce ≡ repeated r key nonce
+  pub pair : (key nonce : List ℕ) → repeats (paramsOf v) (e .pair) key nonce ≡ repeated r key nonce
   pub tag : (available n : ℕ) → endCheck (paramsOf v) (r .phase) (readerHeld (paramsOf v) r) available ≡ Ok n
       → opening (r .phase) ≡ true
       → same (receivedTag (beginData e)) (openTag (beginData e))
       ≡ verified (paramsOf v) (r .key) (r .nonce) (r .header) (r .body)
 
--- a start notes by its check; the pair counts only where the sizes are right
+-- a start notes by its check
 pub readStart-note : (k : AeadInitResult) (r : Reader) (d : Direction) (key nonce header : List ℕ)
     → startNote k d (repeated r key nonce) ≡ readStart k r d key nonce header .verdict
 readStart-note (StartErr x) r d key nonce header = refl
 readStart-note StartOk r d key nonce header = refl
-
-start-note : (p : Params) (d : Direction) (key nonce size : ℕ) (a b : Bool)
-    → (key ≡ p .key → nonce ≡ p .rate → a ≡ b)
-    → startNote (startCheck p d key nonce size a) d a ≡ startNote (startCheck p d key nonce size b) d b
-start-note p d key nonce size a b h = by-key (ℕ-discrete key (p .key))
-  where
-    by-nonce : key ≡ p .key → Dec (nonce ≡ p .rate)
-        → startNote (startCheck p d key nonce size a) d a ≡ startNote (startCheck p d key nonce size b) d b
-    by-nonce k (no w) =
-        rw (startCheck-nonce p d key nonce size a k w, startCheck-nonce p d key nonce size b k w) refl
-    by-nonce k (yes n) = rw (h k n) refl
-
-    by-key : Dec (key ≡ p .key)
-        → startNote (startCheck p d key nonce size a) d a ≡ startNote (startCheck p d key nonce size b) d b
-    by-key (no w) = rw (startCheck-key p d key nonce size a w, startCheck-key p d key nonce size b w) refl
-    by-key (yes k) = by-nonce k (ℕ-discrete nonce (p .rate))
 
 -- an end's check depends on the held bytes through h
 pub endCheck-held : (p : Params) (phase : Phase) (a b available : ℕ) → heldData p phase a ≡ heldData p phase b
@@ -172,13 +153,11 @@ end-asked v w r phase k available right variant q h tag =
     (readEnd-note p r (endCheck p (r .phase) (readerHeld p r) available) available right refl tag)
 
 module _ (v : SparkleVariant) (e : SparkleEngine) (r : Reader) (l : Linked v e r) where
-  pub asked-is-read : (c : Call) → asked e c ≡ read (paramsOf v) r c .verdict
+  pub asked-is-read : (c : Call) → asked e c ≡ read v r c .verdict
   unfolding asked read
   asked-is-read (Call.Init d key nonce size header) =
-      let p = paramsOf v in
-      rw (l .variant)
-      (start-note p d (length key) (length nonce) size (repeats p (e .pair) key nonce) (repeated r key nonce) (l .pair key nonce)
-      ∙ readStart-note (startCheck p d (length key) (length nonce) size (repeated r key nonce)) r d key nonce header)
+      rw (l .variant, l .pair key nonce)
+      (readStart-note (startCheck v d (length key) (length nonce) size (repeated r key nonce)) r d key nonce header)
   asked-is-read (Call.Aad input) = rw readHeader-note
   asked-is-read (Call.Data input out) = rw readMessage-note
   asked-is-read (Call.Final out) =
@@ -198,12 +177,12 @@ take-lines zero e xs = refl
 take-lines (suc k) e [] = refl
 take-lines (suc k) e (x ∷ xs) = ap (λ (ls : List Line). line (step e x) ∷ ls) (take-lines k (step e x .engine) xs)
 
-take-notes : (k : ℕ) (p : Params) (r : Reader) (xs : List Call) → notes p r (take k xs) ≡ take k (notes p r xs)
+take-notes : (k : ℕ) (v : SparkleVariant) (r : Reader) (xs : List Call) → notes v r (take k xs) ≡ take k (notes v r xs)
 unfolding notes
-take-notes zero p r xs = refl
-take-notes (suc k) p r [] = refl
-take-notes (suc k) p r (x ∷ xs) =
-    ap (λ (ns : List Verdict). read p r x .verdict ∷ ns) (take-notes k p (read p r x .reader) xs)
+take-notes zero v r xs = refl
+take-notes (suc k) v r [] = refl
+take-notes (suc k) v r (x ∷ xs) =
+    ap (λ (ns : List Verdict). read v r x .verdict ∷ ns) (take-notes k v (read v r x .reader) xs)
 
 take-map : (k : ℕ) (xs : List Call) → map shape (take k xs) ≡ take k (map shape xs)
 take-map zero xs = refl
@@ -214,15 +193,15 @@ take-map (suc k) (x ∷ xs) = ap (λ (ss : List Shape). shape x ∷ ss) (take-ma
 module _ (v : SparkleVariant) (Follows : SparkleEngine → Reader → Type 0)
     (linked : (e : SparkleEngine) (r : Reader) → Follows e r → Linked v e r)
     (new : Follows (newEngine v) newReader)
-    (keeps : (e : SparkleEngine) (r : Reader) (c : Call) → Follows e r → Follows (step e c .engine) (read (paramsOf v) r c .reader))
+    (keeps : (e : SparkleEngine) (r : Reader) (c : Call) → Follows e r → Follows (step e c .engine) (read v r c .reader))
   where
     pub asked-are-notes : (xs : List Call) (e : SparkleEngine) (r : Reader) → Follows e r
-        → askedAll e xs ≡ notes (paramsOf v) r xs
+        → askedAll e xs ≡ notes v r xs
     unfolding askedAll notes
     asked-are-notes [] e r f = refl
     asked-are-notes (x ∷ xs) e r f =
         ap₂ (λ (b : Verdict) (bs : List Verdict). b ∷ bs) (asked-is-read v e r (linked e r f) x)
-        (asked-are-notes xs (step e x .engine) (read (paramsOf v) r x .reader) (keeps e r x f))
+        (asked-are-notes xs (step e x .engine) (read v r x .reader) (keeps e r x f))
 
     -- Two lists alike: their sheets are equal exactly where their verdicts are.
     pub sheets-and-verdicts : (xs ys : List Call) → Alike xs ys → (sheet v xs ≡ sheet v ys) ↔ (verdicts v xs ≡ verdicts v ys)
@@ -241,6 +220,6 @@ module _ (v : SparkleVariant) (Follows : SparkleEngine → Reader → Type 0)
         let both = sheets-and-verdicts (take k xs) (take k ys) (take-map k xs ∙ ap (take k) a ∙ sym (take-map k ys)) in
         let p = take-lines k (newEngine v) xs in
         let q = take-lines k (newEngine v) ys in
-        let s = take-notes k (paramsOf v) newReader xs in
-        let t = take-notes k (paramsOf v) newReader ys in
+        let s = take-notes k v newReader xs in
+        let t = take-notes k v newReader ys in
         ((λ l. sym s ∙ both .0 (p ∙ l ∙ sym q) ∙ t), (λ w. sym p ∙ both .1 (s ∙ w ∙ sym t) ∙ q))

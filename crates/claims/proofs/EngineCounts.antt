@@ -207,13 +207,13 @@ module _ (v : SparkleVariant) (e : SparkleEngine) (r : Reader) (w : Follows v e 
 
   end-taken : (out : List ℕ) (d : Direction) (k : ℕ)
       → endCheck (paramsOf v) (r .phase) (readerHeld (paramsOf v) r) (length out) ≡ Ok k → opening (r .phase) ≡ opens d
-      → read (paramsOf v) r (Call.Final out) .reader .phase ≡ Final d
+      → read v r (Call.Final out) .reader .phase ≡ Final d
       → step e (Call.Final out) .engine .steps .current
-      ≡ steps (paramsOf v) (length (read (paramsOf v) r (Call.Final out) .reader .header))
-      (messageLength d (paramsOf v) (length (read (paramsOf v) r (Call.Final out) .reader .body))) % 2 ^ 64
+      ≡ steps (paramsOf v) (length (read v r (Call.Final out) .reader .header))
+      (messageLength d (paramsOf v) (length (read v r (Call.Final out) .reader .body))) % 2 ^ 64
   end-taken out d k passed o q =
       let f = follows-step v e r w (Call.Final out) in
-      let x = read (paramsOf v) r (Call.Final out) .reader in
+      let x = read v r (Call.Final out) .reader in
       let st : Standing (paramsOf v) (Final d) (x .loaded) (x .key) (x .nonce) (x .initial) (x .header) (x .body) (f .mac) (f .count) =
       subst (λ (phase : Phase). Standing (paramsOf v) phase (x .loaded) (x .key) (x .nonce) (x .initial) (x .header) (x .body) (f .mac) (f .count))
       q (f .standing)
@@ -236,7 +236,7 @@ module _ (v : SparkleVariant) (e : SparkleEngine) (r : Reader) (w : Follows v e 
       ∙ sym (ap (λ (phase : Phase). endSteps phase (paramsOf v) (e .steps .current) d r) q)
   end-in-final out d (Ok k) c q =
       let p = paramsOf v in
-      let x : read p r (Call.Final out) .reader ≡ readEnd (Ok k) p r .reader = ap (λ (a : AeadResult). readEnd a p r .reader) c in
+      let x : read v r (Call.Final out) .reader ≡ readEnd (Ok k) p r .reader = ap (λ (a : AeadResult). readEnd a p r .reader) c in
       let o = direction (r .phase) p r d (readerHeld p r) (length out) k c q in
       taken-steps (r .phase) p (readEnd (Ok k) p r .reader) d (step e (Call.Final out) .engine .steps .current) (e .steps .current)
       (readerHeld p r) (length out) k c
@@ -244,12 +244,12 @@ module _ (v : SparkleVariant) (e : SparkleEngine) (r : Reader) (w : Follows v e 
       ∙ ap (λ (y : Reader). steps p (length (y .header)) (messageLength d p (length (y .body))) % 2 ^ 64) x)
 
   -- in Final the steps are those of the end, of the reset, or what they were
-  steps-in-final : (c : Call) (d : Direction) → read (paramsOf v) r c .reader .phase ≡ Final d
+  steps-in-final : (c : Call) (d : Direction) → read v r c .reader .phase ≡ Final d
       → stepsNow (step e c .engine)
-      ≡ finalSteps c (r .phase) (paramsOf v) (stepsNow e) d (read (paramsOf v) r c .reader)
+      ≡ finalSteps c (r .phase) (paramsOf v) (stepsNow e) d (read v r c .reader)
   unfolding read stepsNow step
   steps-in-final (Call.Init f key nonce size h) d q =
-      absurd (start-not-final (startCheck (paramsOf v) f (length key) (length nonce) size (repeated r key nonce)) r f d key nonce h q)
+      absurd (start-not-final (startCheck v f (length key) (length nonce) size (repeated r key nonce)) r f d key nonce h q)
   steps-in-final (Call.Aad input) d q =
       header-in-final input d (header-final (aadCheck (r .phase) (length input)) r input d q)
   steps-in-final (Call.Data input out) d q =
@@ -265,34 +265,34 @@ module _ (v : SparkleVariant) (e : SparkleEngine) (r : Reader) (w : Follows v e 
 
   steps-after : (c : Call)
       → stepsNow (step e c .engine)
-      ≡ stepsIn (read (paramsOf v) r c .reader .phase) (r .phase) (paramsOf v) (stepsNow e) c (read (paramsOf v) r c .reader)
+      ≡ stepsIn (read v r c .reader .phase) (r .phase) (paramsOf v) (stepsNow e) c (read v r c .reader)
   unfolding stepsNow
   steps-after c =
       let f = follows-step v e r w c in
-      let q = read (paramsOf v) r c .reader in
+      let q = read v r c .reader in
       let n : step e c .engine .steps .current ≡ f .count = ap (λ (x : SparkleEngine). x .steps .current) (f .same-engine) in
       n ∙ standing-count (paramsOf v) (q .phase) (r .phase) (q .loaded) (q .key) (q .nonce) (q .initial) (q .header) (q .body)
       (f .mac) (f .count) (stepsNow e) c (f .standing) (λ d h. sym n ∙ steps-in-final c d h)
 
 engine-counts : (v : SparkleVariant) (calls : List Call) (e : SparkleEngine) (r : Reader) → Follows v e r
-    → map (λ (l : Line). l .steps) (linesOf engine e calls) ≡ counts (paramsOf v) r (stepsNow e) calls
+    → map (λ (l : Line). l .steps) (linesOf engine e calls) ≡ counts v r (stepsNow e) calls
 unfolding counts line
 engine-counts v [] e r w = refl
 engine-counts v (c ∷ calls) e r w =
     let s = steps-after v e r w c in
-    let q = read (paramsOf v) r c .reader in
+    let q = read v r c .reader in
     ap (λ (ns : List ℕ). stepsNow (step e c .engine) ∷ ns) (engine-counts v calls (step e c .engine) q (follows-step v e r w c))
-    ∙ ap (λ (n : ℕ). n ∷ counts (paramsOf v) q n calls) s
+    ∙ ap (λ (n : ℕ). n ∷ counts v q n calls) s
 
 -- Demand 2, the steps.
 pub engine-counted : (v : SparkleVariant) (calls : List Call)
-    → map (λ (l : Line). l .steps) (sheetOf engine v calls) ≡ counts (paramsOf v) newReader 0 calls
+    → map (λ (l : Line). l .steps) (sheetOf engine v calls) ≡ counts v newReader 0 calls
 unfolding newEngine noSteps stepsNow
 engine-counted v calls = engine-counts v calls (newEngine v) newReader (follows-new v)
 
 -- The same of the sheet of the engine's own calls.
 pub sheet-counted : (v : SparkleVariant) (calls : List Call)
-    → map (λ (l : Line). l .steps) (sheet v calls) ≡ counts (paramsOf v) newReader 0 calls
+    → map (λ (l : Line). l .steps) (sheet v calls) ≡ counts v newReader 0 calls
 unfolding sheet
 sheet-counted v calls =
     sym (ap (map (λ (l : Line). l .steps)) (engine-lines (newEngine v) calls)) ∙ engine-counted v calls

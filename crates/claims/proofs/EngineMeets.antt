@@ -27,11 +27,12 @@ use Rattle.tc_sparkle_aead.specs.Sheet.{step, sheet, run}
 use Rattle.tc_aead_cipher.specs.Outcome.Outcome.{no}
 use Rattle.claims.specs.Reader.{Reader, readerHeld, read, reader, verdicts}
 use Rattle.claims.specs.Messages.{answerOf}
-use Rattle.claims.specs.Refused.{Failed}
+use Rattle.claims.specs.Refused.{Active, Failed}
+use Rattle.claims.specs.Refused.Active.{in-data}
 use Rattle.claims.specs.Machine.{engine, after, Demand3}
 use Rattle.claims.proofs.Kept.{Fits, Follows, Standing, engineOf, pointIn, follows-new, headPoint, dataPoint}
 use Rattle.claims.proofs.Kept.{repeats-agree, held-agrees, phase-agrees, end-enough}
-use Rattle.claims.proofs.Follows.{kept, Active, in-data, follows-step, follows-run, begin-data, active-loaded}
+use Rattle.claims.proofs.Follows.{kept, follows-step, follows-run, begin-data, active-loaded}
 use Rattle.claims.proofs.Follows.{opening-verified}
 use Rattle.claims.proofs.Points.{blockPoint}
 use Rattle.claims.proofs.PublicState.{length-inArray}
@@ -95,7 +96,7 @@ module _ (v : SparkleVariant) (r : Reader) (mac : Mac) (n : ℕ)
         variant = refl;
         phase = phase-agrees (paramsOf v) (r .key) (r .nonce) (r .header) (r .body) (r .phase);
         held = held-linked (paramsOf v) (r .key) (r .nonce) (r .header) (r .body) (r .phase);
-        pair = λ key nonce k m. repeats-agree (paramsOf v) (small v) (r .loaded) (r .key) (r .nonce) f key nonce;
+        pair = λ key nonce. repeats-agree (paramsOf v) (small v) (r .loaded) (r .key) (r .nonce) f key nonce;
         tag = tag-linked v (r .loaded) (r .key) (r .nonce) (r .initial) (r .header) (r .body) mac n f (r .phase) st;
       }
 
@@ -104,7 +105,7 @@ linked v e r w =
     subst (λ (x : SparkleEngine). Linked v x r) (sym (w .same-engine)) (engine-linked v r (w .mac) (w .count) (w .fits) (w .standing))
 
 pub keeps : (v : SparkleVariant) (e : SparkleEngine) (r : Reader) (c : Call) → Follows v e r
-    → Follows v (step e c .engine) (read (paramsOf v) r c .reader)
+    → Follows v (step e c .engine) (read v r c .reader)
 keeps v e r c w = follows-step v e r w c
 
 -- Demand 3: two lists alike have equal sheets exactly where they have equal verdicts, and so their first k calls.
@@ -120,7 +121,7 @@ engine-demand-3 = engine-meets-3 Follows linked follows-new keeps
 
 -- Demand 2, the answers: every call but mac, after every list of calls, is answered as the tables say.
 pub engine-answered : (v : SparkleVariant) (before : List Call) (c : Call) → (c ≡ Call.Mac → ⊥)
-    → engine .step (after engine (engine .new v) before) c .line .outcome ≡ answerOf (paramsOf v) (reader v before) c
+    → engine .step (after engine (engine .new v) before) c .line .outcome ≡ answerOf v (reader v before) c
 engine-answered = engine-answers Follows linked follows-new keeps
 
 -- Demand 1, the failed tag: the engine's buffer is an array of 64 bytes, so 6 leaves what `Failed` says after every list

@@ -59,8 +59,8 @@ messages-between e (x ∷ pieces) = (tt, messages-between (step e (Call.Data (x 
 -- An accepted data call appends its input.
 message-read : (v : SparkleVariant) (e : SparkleEngine) (r : Reader) → Follows v e r → (input out : List ℕ) (n : ℕ)
     → step e (Call.Data input out) .outcome ≡ ok n
-    → (read (paramsOf v) r (Call.Data input out) .reader .header ≡ r .header)
-    × (read (paramsOf v) r (Call.Data input out) .reader .body ≡ r .body ++ input)
+    → (read v r (Call.Data input out) .reader .header ≡ r .header)
+    × (read v r (Call.Data input out) .reader .body ≡ r .body ++ input)
 unfolding read answerOf
 message-read v e r w input out n q =
     let p = paramsOf v in
@@ -74,8 +74,8 @@ message-read v e r w input out n q =
 record Gone (v : SparkleVariant) (pieces : List Piece) (out : List ℕ) (e : SparkleEngine) (r : Reader) : Type 0 where
   count : ℕ
   end-ok : step (runFrom e (messages pieces)) (Call.Final out) .outcome ≡ ok count
-  header-is : readFrom (paramsOf v) r (messages pieces) .header ≡ r .header
-  body-is : readFrom (paramsOf v) r (messages pieces) .body ≡ r .body ++ joined pieces
+  header-is : readFrom v r (messages pieces) .header ≡ r .header
+  body-is : readFrom v r (messages pieces) .body ≡ r .body ++ joined pieces
 
 gone : (v : SparkleVariant) (pieces : List Piece) (out : List ℕ) (e : SparkleEngine) (r : Reader) → Follows v e r
     → AllOk (linesOf engine e (dataCalls pieces out)) → Gone v pieces out e r
@@ -85,7 +85,7 @@ gone v [] out e r w (more n q none) =
 gone v (x ∷ pieces) out e r w (more n q all) =
     let p = paramsOf v in
     let c = Call.Data (x .input) (x .out) in
-    let g = gone v pieces out (step e c .engine) (read p r c .reader) (follows-step v e r w c) all in
+    let g = gone v pieces out (step e c .engine) (read v r c .reader) (follows-step v e r w c) all in
     let m = message-read v e r w (x .input) (x .out) n q in
     record {
       count = g .count;

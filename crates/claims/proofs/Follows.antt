@@ -26,14 +26,17 @@ use Rattle.tc_sparkle_aead.specs.declared.engine.SparkleEngine.{SparkleEngine}
 use Rattle.tc_aead_cipher.specs.Variant.{paramsOf}
 use Rattle.tc_aead_cipher.specs.Checks.{aadCheck, headerCheck, dataCheck, endCheck, startCheck, updateLen, totalLen}
 use Rattle.tc_sparkle_aead.specs.Message.{noMessage, noMac, stateIn, buffered, absorbHeader, headerSteps, plainOf, lastSteps, finalPoint, readable, afterHeader, plainBy, withoutHeader}
-use Rattle.tc_sparkle_aead.specs.Engine.{remember, currentKey, noSteps, initSteps, resetSteps, newEngine, updateOutputLen, outputLen}
+use Rattle.tc_sparkle_aead.specs.Engine.{noPair, remember, currentKey, noSteps, initSteps, refusedSteps, resetSteps, newEngine, updateOutputLen, outputLen}
 use Rattle.tc_sparkle_aead.specs.Calls.{addSteps, atPoint, refused, started, initBy, init, aadBy, processAadBytes, beginData, dataIn, dataBy, processBytes, sealTag, openBlock, receivedTag, openLast, openTag, finalEngine, sealFinal, openFinalBy, openFinal, finalBy, doFinal, dataAnswer, finalAnswer}
 use Rattle.tc_sparkle_aead.specs.Calls.{reset as resetEngine}
 use Rattle.tc_aead_cipher.proofs.VariantLaws.{sizes, small}
+use Rattle.tc_aead_cipher.proofs.CheckLaws.{startCheck-lengths}
 use Rattle.tc_aead_cipher.specs.Call.{Call}
 use Rattle.tc_sparkle_aead.specs.Sheet.{step, runFrom, run}
 use Rattle.claims.specs.Reader.{Reader, newReader, inPhase, headerPhase, readerHeld, repeated, readStart, readHeader}
 use Rattle.claims.specs.Reader.{readMessage, readEnd, resetIn, read, readFrom, reader}
+use Rattle.claims.specs.Refused.{Active}
+use Rattle.claims.specs.Refused.Active.{in-init, in-aad, in-data}
 use Rattle.claims.proofs.Points.{blockPoint}
 use Rattle.claims.proofs.Packets.{last-state, last-steps, length-body, packet-blocks, packet-state, held-block}
 use Rattle.claims.proofs.Packets.{held-received}
@@ -42,15 +45,9 @@ use Rattle.claims.proofs.Kept.{openedMac, Standing, Fits, Follows, foll
 use Rattle.claims.proofs.Kept.{head-count, started-point, started-count, begin-point-init, begin-point-aad}
 use Rattle.claims.proofs.Kept.{begin-count-init, begin-count-aad, holds-data, state-data, data-point, data-count}
 use Rattle.claims.proofs.Kept.{key-back, repeats-agree, pointHeld, data-agrees, update-agrees, total-agrees, end-agrees}
-use Rattle.claims.proofs.Kept.{phase-agrees, end-enough, start-good, Sealed}
+use Rattle.claims.proofs.Kept.{phase-agrees, end-enough, Sealed}
 
 -- ---- The calls
-
--- the phases that take data, in a direction
-pub data Active (d : Direction) : Phase → Type 0 where
-  in-init : Active d (Init d)
-  in-aad : Active d (Aad d)
-  in-data : Active d (Data d)
 
 -- a reader by its parts, and the engine in its data
 abbrev pub kept : Bool → (key nonce initial : List ℕ) → Phase → (header body : List ℕ) → Reader
@@ -455,7 +452,7 @@ start-follows : (v : SparkleVariant) (r : Reader) (mac : Mac) (n : ℕ)
     → (r .loaded ≡ true → Fits (paramsOf v) (r .key) (r .nonce))
     → (d : Direction) (key nonce header : List ℕ) (k : AeadInitResult) → (k ≡ StartOk → Fits (paramsOf v) key nonce)
     → Follows v (initBy k (engineOf v r mac n) d key nonce header .engine) (readStart k r d key nonce header .reader)
-unfolding started refused initSteps noSteps
+unfolding started refused initSteps refusedSteps noSteps remember
 start-follows v r mac n f d key nonce header (StartErr x) g =
     record { mac = noMac; count = 0; same-engine = refl; fits = f; standing = (refl, refl) }
 start-follows v r mac n f d key nonce header StartOk g =
@@ -465,7 +462,7 @@ start-follows v r mac n f d key nonce header StartOk g =
       variant = v;
       current = headPoint p (headerPhase d header) key nonce header;
       initial = headPoint p (headerPhase d header) key nonce header;
-      pair = remember key nonce;
+      pair = remember noPair key nonce;
       mac = noMac;
       steps = record { current = headCount p (length header); initial = headCount p (length header) };
     } =
@@ -473,7 +470,7 @@ start-follows v r mac n f d key nonce header StartOk g =
       variant = v;
       current = started-point p (sizes v) (small v) key nonce d header i;
       initial = started-point p (sizes v) (small v) key nonce d header i;
-      pair = remember key nonce;
+      pair = remember noPair key nonce;
       mac = noMac;
       steps =
           record {
@@ -612,16 +609,16 @@ module _ (v : SparkleVariant) (r : Reader) (mac : Mac) (n : ℕ) (f : r .loaded 
 
   start-step : (d : Direction) (key nonce : List ℕ) (size : ℕ) (h : List ℕ)
       → Follows v (init (engineOf v r mac n) d key nonce size h .engine)
-      (read (paramsOf v) r (Call.Init d key nonce size h) .reader)
+      (read v r (Call.Init d key nonce size h) .reader)
   unfolding init read
   start-step d key nonce size h =
       let p = paramsOf v in
-      let k = startCheck p d (length key) (length nonce) size (repeated r key nonce) in
-      subst (λ (b : Bool). Follows v (initBy (startCheck p d (length key) (length nonce) size b) (engineOf v r mac n) d key nonce h .engine)
+      let k = startCheck v d (length key) (length nonce) size (repeated r key nonce) in
+      subst (λ (b : Bool). Follows v (initBy (startCheck v d (length key) (length nonce) size b) (engineOf v r mac n) d key nonce h .engine)
       (readStart k r d key nonce h .reader))
       (sym (repeats-agree p (small v) (r .loaded) (r .key) (r .nonce) f key nonce))
       (start-follows v r mac n f d key nonce h k
-      (λ e. let g = start-good p d (length key) (length nonce) size (repeated r key nonce) e in record { key-fits = g .0; nonce-fits = g .1 }))
+      (λ e. let g = startCheck-lengths v d (length key) (length nonce) size (repeated r key nonce) e in record { key-fits = g .0; nonce-fits = g .1 }))
 
   header-some : (x : ℕ) (input : List ℕ)
       → Follows v (aadBy (aadCheck (engineOf v r mac n .current .phase) (suc (length input))) (engineOf v r mac n)
@@ -636,26 +633,26 @@ module _ (v : SparkleVariant) (r : Reader) (mac : Mac) (n : ℕ) (f : r .loaded 
       (header-follows v (r .loaded) (r .key) (r .nonce) (r .initial) f (r .phase) (r .header) (r .body) mac n st x input))
 
   header-step : (input : List ℕ)
-      → Follows v (processAadBytes (engineOf v r mac n) input .engine) (read (paramsOf v) r (Call.Aad input) .reader)
+      → Follows v (processAadBytes (engineOf v r mac n) input .engine) (read v r (Call.Aad input) .reader)
   unfolding processAadBytes read aadCheck
   header-step [] =
       subst (λ (l : List ℕ). Follows v (engineOf v r mac n) (inPhase r (r .phase) l (r .body)))
       (sym (append-nil (r .header))) unchanged
   header-step (x ∷ input) = header-some x input
 
-  call-step : (c : Call) → Follows v (step (engineOf v r mac n) c .engine) (read (paramsOf v) r c .reader)
+  call-step : (c : Call) → Follows v (step (engineOf v r mac n) c .engine) (read v r c .reader)
   unfolding step processBytes doFinal
   call-step (Call.Init d key nonce size h) = start-step d key nonce size h
   call-step (Call.Aad input) = header-step input
   call-step (Call.Data input out) = unfold read in
       subst (λ (k : AeadResult). Follows v (dataBy k (engineOf v r mac n) input .engine)
-      (read (paramsOf v) r (Call.Data input out) .reader))
+      (read v r (Call.Data input out) .reader))
       (sym (data-answer v r mac n (length input) (length out)))
       (message-step v (r .phase) (r .loaded) (r .key) (r .nonce) (r .initial) (r .header) (r .body) mac n f st input
       (readerHeld (paramsOf v) r) (length out))
   call-step (Call.Final out) = unfold read in
       subst (λ (k : AeadResult). Follows v (finalBy k (engineOf v r mac n) .engine)
-      (read (paramsOf v) r (Call.Final out) .reader))
+      (read v r (Call.Final out) .reader))
       (sym (final-answer v r mac n (length out)))
       (end-step v (r .phase) (r .loaded) (r .key) (r .nonce) (r .initial) (r .header) (r .body) mac n f st (length out))
   call-step Call.Reset =
@@ -667,17 +664,17 @@ module _ (v : SparkleVariant) (r : Reader) (mac : Mac) (n : ℕ) (f : r .loaded 
 -- ---- Every call, refused or not, and every list of calls
 
 pub follows-step : (v : SparkleVariant) (e : SparkleEngine) (r : Reader) → Follows v e r → (c : Call)
-    → Follows v (step e c .engine) (read (paramsOf v) r c .reader)
+    → Follows v (step e c .engine) (read v r c .reader)
 follows-step v e r w c =
-    subst (λ (x : SparkleEngine). Follows v (step x c .engine) (read (paramsOf v) r c .reader)) (sym (w .same-engine))
+    subst (λ (x : SparkleEngine). Follows v (step x c .engine) (read v r c .reader)) (sym (w .same-engine))
     (call-step v r (w .mac) (w .count) (w .fits) (w .standing) c)
 
 pub follows-from : (v : SparkleVariant) (e : SparkleEngine) (r : Reader) → Follows v e r → (calls : List Call)
-    → Follows v (runFrom e calls) (readFrom (paramsOf v) r calls)
+    → Follows v (runFrom e calls) (readFrom v r calls)
 unfolding runFrom readFrom
 follows-from v e r w [] = w
 follows-from v e r w (c ∷ calls) =
-    follows-from v (step e c .engine) (read (paramsOf v) r c .reader) (follows-step v e r w c) calls
+    follows-from v (step e c .engine) (read v r c .reader) (follows-step v e r w c) calls
 
 pub follows-run : (v : SparkleVariant) (calls : List Call) → Follows v (run v calls) (reader v calls)
 unfolding run reader

@@ -1,13 +1,13 @@
 -- What the engine is after a list of calls, from what the reader keeps, and what holds in each phase; with the laws of the
 -- parts of a call on such an engine: its points, its step count and its checks.
 use mathlib.Core.Path.{_≡_, refl, sym, ap, ap₂, _∙_}
-use mathlib.Core.Bool.{Bool, true, false, cond, not}
+use mathlib.Core.Bool.{Bool, true, false, cond}
 use mathlib.Core.List.{List, [], _∷_, _++_}
 use Prim.Native.Nat.{ℕ, _+_, _-_, _*_, _%_, _^_, _≤_, _<_}
 use native.Mathlib.Nat.{mod-add-mod, add-mul}
 use native.Mathlib.Omega.{arith}
-use lib.Dec.{eqb, ltb}
-use borrow.Author.Tests.{eqb-true, ltb-false}
+use lib.Dec.{ltb}
+use borrow.Author.Tests.{ltb-false}
 use lib.ListN.{length}
 use Rattle.schwaemm.specs.Bytes.{same, ifEmpty}
 use Rattle.schwaemm.specs.Blocks.{ready, after, given, held}
@@ -23,16 +23,12 @@ use Rattle.tc_aead_cipher.specs.declared.phase.Phase.the-variants.{Uninitialize
 use Rattle.tc_aead_cipher.specs.declared.aead_error.AeadError.the-variants.{CiphertextTooShort}
 use Rattle.tc_aead_cipher.specs.declared.aead_error.AeadResult.{AeadResult}
 use Rattle.tc_aead_cipher.specs.declared.aead_error.AeadResult.the-variants.{Ok, Err}
-use Rattle.tc_aead_cipher.specs.declared.aead_init_error.AeadInitError.{AeadInitError}
-use Rattle.tc_aead_cipher.specs.declared.aead_init_error.AeadInitError.the-variants.{InvalidKeyLength, InvalidNonceLength}
-use Rattle.tc_aead_cipher.specs.declared.aead_init_error.AeadInitResult.{AeadInitResult}
-use Rattle.tc_aead_cipher.specs.declared.aead_init_error.AeadInitResult.the-variants.{Ok as StartOk, Err as StartErr}
 use Rattle.tc_sparkle_aead.specs.declared.message.Point.{Point}
 use Rattle.tc_sparkle_aead.specs.declared.engine.Pair.{Pair}
 use Rattle.tc_sparkle_aead.specs.declared.engine.Mac.{Mac}
 use Rattle.tc_sparkle_aead.specs.declared.engine.SparkleEngine.{SparkleEngine}
 use Rattle.tc_aead_cipher.specs.Variant.{paramsOf}
-use Rattle.tc_aead_cipher.specs.Checks.{opening, keep, heldData, dataCheck, endCheck, startCheck, updateLen, totalLen, phaseCheck, then, room, whole}
+use Rattle.tc_aead_cipher.specs.Checks.{opening, keep, heldData, dataCheck, endCheck, updateLen, totalLen, phaseCheck, then, room, whole}
 use Rattle.tc_sparkle_aead.specs.Message.{zeros, inArray, noMessage, noMac, stateIn, putState, buffered, stream, blockCount, streamed, startPoint, absorbHeader, headerSteps, plainOf, finalPoint, readable}
 use Rattle.tc_sparkle_aead.specs.Engine.{noPair, repeats, remember, currentKey, noSteps, newEngine}
 use Rattle.tc_aead_cipher.proofs.VariantLaws.{Small}
@@ -66,7 +62,7 @@ initialIn p (Final d) key nonce initial = headPoint p (headerPhase d initial) ke
 
 abbrev pub pairIn : Bool → (key nonce : List ℕ) → Pair
 pairIn false key nonce = noPair
-pairIn true key nonce = remember key nonce
+pairIn true key nonce = remember noPair key nonce
 
 -- The steps of a message with a header of n bytes, before its data.
 unfoldable pub headCount : Params → ℕ → ℕ
@@ -336,7 +332,7 @@ module _ (p : Params) (h : Sizes p) (m : Small p) where
             (ready (p .rate) (keep p (Data d)) (length (held (p .rate) (keep p (Data d)) body ++ input))) (p .slim))
 
 -- a loaded pair's key and what it repeats
-pub key-back : (p : Params) → Small p → (key nonce : List ℕ) → Fits p key nonce → currentKey p (remember key nonce) ≡ key
+pub key-back : (p : Params) → Small p → (key nonce : List ℕ) → Fits p key nonce → currentKey p (remember noPair key nonce) ≡ key
 unfolding currentKey remember
 key-back p m key nonce f = take-inArray 32 (p .key) key (omega arith) (f .key-fits)
 
@@ -427,17 +423,3 @@ end-enough p phase held a k o e =
     let n = s2 .0 in
     whole-good p h n k (ltb h (p .key)) refl
     (ap (λ (b : Bool). cond b (cond (ltb h (p .key)) (Err (CiphertextTooShort (p .key) h)) (Ok n)) (Ok n)) (sym o) ∙ s2 .2)
-
--- a start that passes has the variant's sizes
-size-good : (a b : ℕ) (t : Bool) → eqb a b ≡ t → (x : AeadInitError) (y : AeadInitResult)
-    → cond (not t) (StartErr x) y ≡ StartOk → (a ≡ b) × (y ≡ StartOk)
-size-good a b true t x y e = (eqb-true a b t, e)
-size-good a b false t x y e = absurd (let z : _≡_ {A = ℕ} 0 1 = cc in omega arith)
-
-pub start-good : (p : Params) (d : Direction) (key nonce size : ℕ) (repeats : Bool)
-    → startCheck p d key nonce size repeats ≡ StartOk → (key ≡ p .key) × (nonce ≡ p .rate)
-unfolding startCheck
-start-good p d key nonce size repeats e =
-    let s1 = size-good key (p .key) (eqb key (p .key)) refl (InvalidKeyLength key) _ e in
-    let s2 = size-good nonce (p .rate) (eqb nonce (p .rate)) refl (InvalidNonceLength nonce) _ (s1 .1) in
-    (s1 .0, s2 .0)

@@ -88,14 +88,14 @@ end-shown p r (Ok n) available c = end-phase p r (r .phase) n available c
 module _ (v w : SparkleVariant) (r : Reader) (phase : Phase) (k : ℕ) (variant : w ≡ v) (same-phase : phase ≡ r .phase)
     (held : heldData (paramsOf v) (r .phase) k ≡ heldData (paramsOf v) (r .phase) (readerHeld (paramsOf v) r)) where
   start-expected : (d : Direction) (key nonce header : List ℕ) (size : ℕ)
-      → startOutcome (startCheck (paramsOf w) d (length key) (length nonce) size
-      (yes (readStart (startCheck (paramsOf v) d (length key) (length nonce) size (repeated r key nonce)) r d key nonce header .verdict)))
-      ≡ startOutcome (startCheck (paramsOf v) d (length key) (length nonce) size (repeated r key nonce))
+      → startOutcome (startCheck w d (length key) (length nonce) size
+      (yes (readStart (startCheck v d (length key) (length nonce) size (repeated r key nonce)) r d key nonce header .verdict)))
+      ≡ startOutcome (startCheck v d (length key) (length nonce) size (repeated r key nonce))
   start-expected d key nonce header size =
       let p = paramsOf v in
       let b = repeated r key nonce in
-      rw (variant, ← readStart-note (startCheck p d (length key) (length nonce) size b) r d key nonce header)
-      (ap startOutcome (sym (start-verdict p (length key) (length nonce) size d b)))
+      rw (variant, ← readStart-note (startCheck v d (length key) (length nonce) size b) r d key nonce header)
+      (ap startOutcome (sym (start-verdict v (length key) (length nonce) size d b)))
 
   data-expected : (n available : ℕ)
       → outcome (dataCheck (paramsOf w) phase k n available)
@@ -123,11 +123,11 @@ module _ (v w : SparkleVariant) (r : Reader) (phase : Phase) (k : ℕ) (variant 
       rw (variant, same-phase, totalLen-held (paramsOf v) (r .phase) k (readerHeld (paramsOf v) r) n held)
 
 module _ (v : SparkleVariant) (e : SparkleEngine) (r : Reader) (l : Linked v e r) where
-  shown : (c : Call) → step e c .outcome ≡ shows (publicOf e) (shape c) (read (paramsOf v) r c .verdict)
+  shown : (c : Call) → step e c .outcome ≡ shows (publicOf e) (shape c) (read v r c .verdict)
   shown c = shows-is e c ∙ ap (shows (publicOf e) (shape c)) (asked-is-read v e r l c)
 
   -- A call that is no mac call is answered as the tables say.
-  pub answered : (c : Call) → (c ≡ Call.Mac → ⊥) → step e c .outcome ≡ answerOf (paramsOf v) r c
+  pub answered : (c : Call) → (c ≡ Call.Mac → ⊥) → step e c .outcome ≡ answerOf v r c
   unfolding answerOf read
   answered (Call.Init d key nonce size header) other =
       shown (Call.Init d key nonce size header)
@@ -159,21 +159,21 @@ module _ (Follows : SparkleVariant → SparkleEngine → Reader → Type 0)
     (linked : (v : SparkleVariant) (e : SparkleEngine) (r : Reader) → Follows v e r → Linked v e r)
     (new : (v : SparkleVariant) → Follows v (newEngine v) newReader)
     (keeps : (v : SparkleVariant) (e : SparkleEngine) (r : Reader) (c : Call) → Follows v e r
-    → Follows v (step e c .engine) (read (paramsOf v) r c .reader))
+    → Follows v (step e c .engine) (read v r c .reader))
   where
     follows-after : (v : SparkleVariant) (xs : List Call) (e : SparkleEngine) (r : Reader) → Follows v e r
-        → Follows v (after engine e xs) (readFrom (paramsOf v) r xs)
+        → Follows v (after engine e xs) (readFrom v r xs)
     unfolding readFrom
     follows-after v [] e r f = f
     follows-after v (x ∷ xs) e r f =
-        follows-after v xs (step e x .engine) (read (paramsOf v) r x .reader) (keeps v e r x f)
+        follows-after v xs (step e x .engine) (read v r x .reader) (keeps v e r x f)
 
     -- Demand 2, the answers.
     pub engine-answers : (v : SparkleVariant) (before : List Call) (c : Call) → (c ≡ Call.Mac → ⊥)
-        → engine .step (after engine (engine .new v) before) c .line .outcome ≡ answerOf (paramsOf v) (reader v before) c
+        → engine .step (after engine (engine .new v) before) c .line .outcome ≡ answerOf v (reader v before) c
     unfolding reader line
     engine-answers v before c other =
-        answered v (after engine (newEngine v) before) (readFrom (paramsOf v) newReader before)
+        answered v (after engine (newEngine v) before) (readFrom v newReader before)
         (linked v _ _ (follows-after v before (newEngine v) newReader (new v))) c other
 
     -- Demand 3.

@@ -33,6 +33,7 @@ use Rattle.tc_aead_cipher.proofs.CheckLaws.{updateLen-fits, totalLen-opening, t
 use Rattle.tc_aead_cipher.specs.Call.{Call}
 use Rattle.tc_sparkle_aead.specs.Sheet.{step, runFrom, run}
 use Rattle.tc_aead_cipher.specs.Outcome.{Outcome, outcome, startOutcome}
+use Rattle.claims.specs.Refused.{Active}
 use Rattle.claims.specs.Reader.{Reader, readerHeld, headerPhase, repeated, aadPhase, readHeader, readMessage, read}
 use Rattle.claims.specs.Reader.{readFrom, reader}
 use Rattle.claims.specs.Messages.{messageOf, headerIn, dataOf, countOf, outputs, Between, AllBetween, Each, startedEngine}
@@ -40,7 +41,7 @@ use Rattle.claims.specs.Messages.{headerBytes, dataBytes, HeaderCall, Da
 use Rattle.claims.specs.Messages.{Accepts, Completes, Rejects, RoundTrip}
 use Rattle.claims.proofs.Packets.{length-body}
 use Rattle.claims.proofs.Kept.{Follows, Standing, engineOf}
-use Rattle.claims.proofs.Follows.{Active, kept, follows-step, follows-from, follows-run, aad-some, header-answer}
+use Rattle.claims.proofs.Follows.{kept, follows-step, follows-from, follows-run, aad-some, header-answer}
 use Rattle.claims.proofs.Follows.{update-answer, total-answer}
 use Rattle.claims.proofs.Accepted.{active-opening}
 use Rattle.claims.proofs.Written.{outcome-ok, end-ended, message-outcome, seal-end, open-end}
@@ -128,15 +129,15 @@ header-taken v e r w t input =
 -- what header calls leave
 record Headed (v : SparkleVariant) (d : Direction) (e : SparkleEngine) (r : Reader) (calls : List Call) : Type 0 where
   taken : Accepts e calls
-  heading : Heading d (readFrom (paramsOf v) r calls .phase)
-  header-is : readFrom (paramsOf v) r calls .header ≡ r .header ++ headerBytes calls
-  body-is : readFrom (paramsOf v) r calls .body ≡ r .body
+  heading : Heading d (readFrom v r calls .phase)
+  header-is : readFrom v r calls .header ≡ r .header ++ headerBytes calls
+  body-is : readFrom v r calls .body ≡ r .body
 
 -- one call more
 absorb-more : (v : SparkleVariant) (d : Direction) (e : SparkleEngine) (r : Reader) (c : Call) (calls : List Call)
-    → IsAccepted c (step e c .outcome) → read (paramsOf v) r c .reader .header ≡ r .header ++ headerIn c
-    → read (paramsOf v) r c .reader .body ≡ r .body
-    → Headed v d (step e c .engine) (read (paramsOf v) r c .reader) calls → Headed v d e r (c ∷ calls)
+    → IsAccepted c (step e c .outcome) → read v r c .reader .header ≡ r .header ++ headerIn c
+    → read v r c .reader .body ≡ r .body
+    → Headed v d (step e c .engine) (read v r c .reader) calls → Headed v d e r (c ∷ calls)
 unfolding readFrom
 absorb-more v d e r c calls t h b q =
     record {
@@ -148,7 +149,7 @@ absorb-more v d e r c calls t h b q =
     }
 
 header-read : (v : SparkleVariant) (r : Reader) {d : Direction} → Heading d (r .phase) → (input : List ℕ)
-    → read (paramsOf v) r (Call.Aad input) .reader
+    → read v r (Call.Aad input) .reader
     ≡ kept (r .loaded) (r .key) (r .nonce) (r .initial) (aadPhase (r .phase) input) (r .header ++ input) (r .body)
 unfolding read
 header-read v r t input = ap (λ (k : AeadResult). readHeader k r input .reader) (aad-passes t input)
@@ -161,11 +162,11 @@ headers-taken v d e r w t [] b =
 headers-taken v d e r w t (Call.Init d' key nonce size h ∷ calls) b = absurd (b .0)
 headers-taken v d e r w t (Call.Aad input ∷ calls) b =
     let is = header-read v r t input in
-    let t' : Heading d (read (paramsOf v) r (Call.Aad input) .reader .phase) =
+    let t' : Heading d (read v r (Call.Aad input) .reader .phase) =
     subst (λ (x : Reader). Heading d (x .phase)) (sym is) (heading-more t input) in
     absorb-more v d e r (Call.Aad input) calls (0, header-taken v e r w t input) (ap (λ (x : Reader). x .header) is)
     (ap (λ (x : Reader). x .body) is)
-    (headers-taken v d (step e (Call.Aad input) .engine) (read (paramsOf v) r (Call.Aad input) .reader)
+    (headers-taken v d (step e (Call.Aad input) .engine) (read v r (Call.Aad input) .reader)
     (follows-step v e r w (Call.Aad input)) t' calls (b .1))
 headers-taken v d e r w t (Call.Data input out ∷ calls) b = absurd (b .0)
 headers-taken v d e r w t (Call.Final out ∷ calls) b = absurd (b .0)
@@ -275,13 +276,13 @@ message-passes v e r w t input out enough =
 -- what data calls leave
 record Carried (v : SparkleVariant) (e : SparkleEngine) (r : Reader) (calls : List Call) : Type 0 where
   taken : Accepts e calls
-  header-is : readFrom (paramsOf v) r calls .header ≡ r .header
-  body-is : readFrom (paramsOf v) r calls .body ≡ r .body ++ dataBytes calls
+  header-is : readFrom v r calls .header ≡ r .header
+  body-is : readFrom v r calls .body ≡ r .body ++ dataBytes calls
 
 carried-more : (v : SparkleVariant) (e : SparkleEngine) (r : Reader) (c : Call) (calls : List Call)
-    → IsAccepted c (step e c .outcome) → read (paramsOf v) r c .reader .header ≡ r .header
-    → read (paramsOf v) r c .reader .body ≡ r .body ++ dataOf c
-    → Carried v (step e c .engine) (read (paramsOf v) r c .reader) calls → Carried v e r (c ∷ calls)
+    → IsAccepted c (step e c .outcome) → read v r c .reader .header ≡ r .header
+    → read v r c .reader .body ≡ r .body ++ dataOf c
+    → Carried v (step e c .engine) (read v r c .reader) calls → Carried v e r (c ∷ calls)
 unfolding readFrom
 carried-more v e r c calls t h b q =
     record {
@@ -300,13 +301,13 @@ datas-taken v d e r w t (Call.Aad input ∷ calls) b rooms = absurd (b .0)
 datas-taken v d e r w t (Call.Data input out ∷ calls) b rooms =
     let q = message-passes v e r w t input out (rooms .0) in
     let is = ap (λ (k : AeadResult). readMessage k r input .reader) (q .1) in
-    let t' : Active d (read (paramsOf v) r (Call.Data input out) .reader .phase) =
+    let t' : Active d (read v r (Call.Data input out) .reader .phase) =
     subst (λ (x : Reader). Active d (x .phase)) (sym is) (active-message t) in
-    let body-is : read (paramsOf v) r (Call.Data input out) .reader .body ≡ r .body ++ input =
+    let body-is : read v r (Call.Data input out) .reader .body ≡ r .body ++ input =
     ap (λ (x : Reader). x .body) is in
     carried-more v e r (Call.Data input out) calls
     (q .0, message-outcome v e r w input out ∙ ap outcome (q .1)) (ap (λ (x : Reader). x .header) is) body-is
-    (datas-taken v d (step e (Call.Data input out) .engine) (read (paramsOf v) r (Call.Data input out) .reader)
+    (datas-taken v d (step e (Call.Data input out) .engine) (read v r (Call.Data input out) .reader)
     (follows-step v e r w (Call.Data input out)) t' calls (b .1) (rooms .1))
 datas-taken v d e r w t (Call.Final out ∷ calls) b rooms = absurd (b .0)
 datas-taken v d e r w t (Call.Reset ∷ calls) b rooms = absurd (b .0)
@@ -386,10 +387,10 @@ unfolding runFrom
 run-append e [] ys = refl
 run-append e (c ∷ xs) ys = run-append (step e c .engine) xs ys
 
-read-append : (p : Params) (r : Reader) (xs ys : List Call) → readFrom p r (xs ++ ys) ≡ readFrom p (readFrom p r xs) ys
+read-append : (v : SparkleVariant) (r : Reader) (xs ys : List Call) → readFrom v r (xs ++ ys) ≡ readFrom v (readFrom v r xs) ys
 unfolding readFrom
-read-append p r [] ys = refl
-read-append p r (c ∷ xs) ys = read-append p (read p r c .reader) xs ys
+read-append v r [] ys = refl
+read-append v r (c ∷ xs) ys = read-append v (read v r c .reader) xs ys
 
 start-heading : (d : Direction) (initial : List ℕ) → Heading d (headerPhase d initial)
 start-heading d [] = heading-init
@@ -413,12 +414,12 @@ arrived : (v : SparkleVariant) (d : Direction) (key nonce initial : List ℕ) (e
 arrived v d key nonce initial e w hs ms bh bm rooms =
     let p = paramsOf v in
     let r1 = startedReader d key nonce initial in
-    let r2 = readFrom p r1 hs in
+    let r2 = readFrom v r1 hs in
     let room = rooms-append e hs ms rooms in
     let hq = headers-taken v d e r1 w (start-heading d initial) hs bh in
     let dq = datas-taken v d (runFrom e hs) r2 (follows-from v e r1 w hs) (heading-takes (hq .heading)) ms bm
     (room .1) in
-    let is = read-append p r1 hs ms in
+    let is = read-append v r1 hs ms in
     record {
       taken = accepts-append e hs ms (hq .taken) (dq .taken);
       header-is = ap (λ (x : Reader). x .header) is ∙ dq .header-is ∙ hq .header-is;
@@ -439,7 +440,7 @@ module _ (v : SparkleVariant) (before : List Call) (key nonce : List ℕ) (size 
   sealing-starts fresh =
       start-outcome v (run v before) (reader v before) (follows-run v before) Encrypt key nonce size initial
       ∙ ap startOutcome
-      (startCheck-sealing (paramsOf v) Encrypt (length key) (length nonce) size
+      (startCheck-sealing v Encrypt (length key) (length nonce) size
       (repeated (reader v before) key nonce) key-fits nonce-fits size-fits refl
       ∙ ap (λ (b : Bool). cond b (StartErr NonceReuse) StartOk) fresh)
 
@@ -447,7 +448,7 @@ module _ (v : SparkleVariant) (before : List Call) (key nonce : List ℕ) (size 
   opening-starts =
       start-outcome v (run v before) (reader v before) (follows-run v before) Decrypt key nonce size initial
       ∙ ap startOutcome
-      (startCheck-opening (paramsOf v) Decrypt (length key) (length nonce) size
+      (startCheck-opening v Decrypt (length key) (length nonce) size
       (repeated (reader v before) key nonce) key-fits nonce-fits size-fits refl)
 
   -- the last reader in its parts

@@ -27,7 +27,7 @@ use Rattle.tc_sparkle_aead.specs.declared.engine.SparkleEngine.{SparkleEngine}
 use Rattle.tc_aead_cipher.specs.Variant.{paramsOf}
 use Rattle.tc_aead_cipher.specs.Checks.{opens, opening, keep, updateLen, totalLen, aadCheck, dataCheck, endCheck, startCheck}
 use Rattle.tc_sparkle_aead.specs.Message.{zeros, inArray, noMessage, noMac, bufferedCount, buffered, stream, blockCount, streamed, startPoint, absorbHeader, headerSteps, lastSteps, finalPoint, afterHeader, withoutHeader, readable, resetPoint}
-use Rattle.tc_sparkle_aead.specs.Engine.{noSteps, initSteps, resetSteps, repeats, updateOutputLen, outputLen}
+use Rattle.tc_sparkle_aead.specs.Engine.{initSteps, refusedSteps, resetSteps, repeats, updateOutputLen, outputLen}
 use Rattle.tc_sparkle_aead.specs.Calls.{addSteps, atPoint, aadIn, beginBy, beginData, dataIn, openBlock, finalEngine}
 use Rattle.tc_sparkle_aead.specs.Calls.{refused, started, init, initBy, aadBy, processAadBytes, dataBy, dataAnswer, finalAnswer, processBytes, receivedTag, openTag, sealFinal, openFinalBy, openFinal, finalBy, doFinal, macOf, stepsNow}
 use Rattle.tc_sparkle_aead.specs.Calls.{reset as resetEngine}
@@ -83,7 +83,7 @@ endNote (Ok n) opens right = cond opens (verdictOf right) None
 unfoldable pub asked : SparkleEngine → Call → Verdict
 asked e (Call.Init d key nonce size header) =
     let p = paramsOf (e .variant) in
-    startNote (startCheck p d (length key) (length nonce) size (repeats p (e .pair) key nonce)) d (repeats p (e .pair) key nonce)
+    startNote (startCheck (e .variant) d (length key) (length nonce) size (repeats p (e .pair) key nonce)) d (repeats p (e .pair) key nonce)
 asked e (Call.Aad input) = None
 asked e (Call.Data input out) = None
 asked e (Call.Final out) =
@@ -156,7 +156,7 @@ yes None = false
 -- init
 abbrev pub wipedNext : Public → Public
 wipedNext u =
-    record { variant = u .variant; current = outside noMessage; initial = outside noMessage; steps = noSteps; readable = false }
+    record { variant = u .variant; current = outside noMessage; initial = outside noMessage; steps = refusedSteps (u .steps); readable = false }
 
 abbrev pub startOutside : Direction → Outside
 startOutside d = record { phase = Init d; held = 0; size = 64 }
@@ -176,7 +176,7 @@ startNext StartOk u d n =
       variant = u .variant;
       current = absorbNext p d (startOutside d) n;
       initial = absorbNext p d (startOutside d) n;
-      steps = initSteps ((p .big + absorbSteps p (startOutside d) n) % 2 ^ 64);
+      steps = initSteps (u .steps) ((p .big + absorbSteps p (startOutside d) n) % 2 ^ 64);
       readable = false;
     }
 
@@ -251,7 +251,7 @@ resetOutside (Final Decrypt) initial = initial
 -- The public state after a call, from the public state, the shape and the verdict.
 abbrev pub next : Public → Shape → Verdict → Public
 next u (Shape.Init d key nonce size header) w =
-    startNext (startCheck (paramsOf (u .variant)) d key nonce size (yes w)) u d header
+    startNext (startCheck (u .variant) d key nonce size (yes w)) u d header
 next u (Shape.Aad n) w = headerNext (aadCheck (u .current .phase) n) u n
 next u (Shape.Data n out) w =
     dataNext (dataCheck (paramsOf (u .variant)) (u .current .phase) (u .current .held) n out) u n
@@ -272,7 +272,7 @@ next u (Shape.Output n) w = u
 -- The outcome of a call.
 abbrev pub shows : Public → Shape → Verdict → Outcome
 shows u (Shape.Init d key nonce size header) w =
-    startOutcome (startCheck (paramsOf (u .variant)) d key nonce size (yes w))
+    startOutcome (startCheck (u .variant) d key nonce size (yes w))
 shows u (Shape.Aad n) w = headerShows (aadCheck (u .current .phase) n)
 shows u (Shape.Data n out) w =
     outcome (dataCheck (paramsOf (u .variant)) (u .current .phase) (u .current .held) n out)
@@ -295,7 +295,7 @@ isOk (no r) = false
 
 abbrev pub judged : Public → Shape → Outcome → Verdict
 judged u (Shape.Init d key nonce size header) o =
-    startNote (startCheck (paramsOf (u .variant)) d key nonce size (isReuse o)) d (isReuse o)
+    startNote (startCheck (u .variant) d key nonce size (isReuse o)) d (isReuse o)
 judged u (Shape.Aad n) o = None
 judged u (Shape.Data n out) o = None
 judged u (Shape.Final out) o =
@@ -337,19 +337,19 @@ module _ (key nonce size : ℕ) where
   judged-by false false false Encrypt false = refl
 
 -- a start's check needs of the pair only what its verdict tells, and its outcome tells the verdict
-module _ (p : Params) (key nonce size : ℕ) (d : Direction) (b : Bool) where
-  pub start-verdict : startCheck p d key nonce size b
-      ≡ startCheck p d key nonce size (yes (startNote (startCheck p d key nonce size b) d b))
+module _ (v : SparkleVariant) (key nonce size : ℕ) (d : Direction) (b : Bool) where
+  pub start-verdict : startCheck v d key nonce size b
+      ≡ startCheck v d key nonce size (yes (startNote (startCheck v d key nonce size b) d b))
   unfolding startCheck
   start-verdict =
-      verdict-by key nonce size (not (eqb key (p .key))) (not (eqb nonce (p .rate))) (not (eqb size (p .key))) d b
+      verdict-by key nonce size (not (eqb key (paramsOf v .key))) (not (eqb nonce (paramsOf v .rate))) (not (eqb size (paramsOf v .key))) d b
 
-  start-judged : startNote (startCheck p d key nonce size b) d b
-      ≡ startNote (startCheck p d key nonce size (isReuse (startOutcome (startCheck p d key nonce size b)))) d
-      (isReuse (startOutcome (startCheck p d key nonce size b)))
+  start-judged : startNote (startCheck v d key nonce size b) d b
+      ≡ startNote (startCheck v d key nonce size (isReuse (startOutcome (startCheck v d key nonce size b)))) d
+      (isReuse (startOutcome (startCheck v d key nonce size b)))
   unfolding startCheck
   start-judged =
-      judged-by key nonce size (not (eqb key (p .key))) (not (eqb nonce (p .rate))) (not (eqb size (p .key))) d b
+      judged-by key nonce size (not (eqb key (paramsOf v .key))) (not (eqb nonce (paramsOf v .rate))) (not (eqb size (paramsOf v .key))) d b
 
 -- an end's answer and the public state after it need of the tag only what the verdict tells
 end-verdict : (k : AeadResult) (u : Public) (right : Bool)
@@ -410,7 +410,7 @@ start-public StartOk e d key nonce header =
       variant = e .variant;
       current = at i;
       initial = at i;
-      steps = initSteps ((p .big + n i) % 2 ^ 64);
+      steps = initSteps (e .steps) ((p .big + n i) % 2 ^ 64);
       readable = false;
     }
 
@@ -545,9 +545,9 @@ unfolding step asked init processAadBytes processBytes doFinal
 next-is e (Call.Init d key nonce size header) =
     let p = paramsOf (e .variant) in
     let b = repeats p (e .pair) key nonce in
-    start-public (startCheck p d (length key) (length nonce) size b) e d key nonce header
+    start-public (startCheck (e .variant) d (length key) (length nonce) size b) e d key nonce header
     ∙ ap (λ (k : AeadInitResult). startNext k (publicOf e) d (length header))
-    (start-verdict p (length key) (length nonce) size d b)
+    (start-verdict (e .variant) (length key) (length nonce) size d b)
 next-is e (Call.Aad input) = header-public (aadCheck (e .current .phase) (length input)) e input
 next-is e (Call.Data input out) = data-public (dataAnswer e (length input) (length out)) e input
 next-is e (Call.Final out) =
@@ -563,8 +563,8 @@ unfolding step asked init processAadBytes processBytes doFinal updateOutputLen o
 shows-is e (Call.Init d key nonce size header) =
     let p = paramsOf (e .variant) in
     let b = repeats p (e .pair) key nonce in
-    start-shows (startCheck p d (length key) (length nonce) size b) e d key nonce header
-    ∙ ap startOutcome (start-verdict p (length key) (length nonce) size d b)
+    start-shows (startCheck (e .variant) d (length key) (length nonce) size b) e d key nonce header
+    ∙ ap startOutcome (start-verdict (e .variant) (length key) (length nonce) size d b)
 shows-is e (Call.Aad input) = header-shows (aadCheck (e .current .phase) (length input)) e input
 shows-is e (Call.Data input out) = data-shows (dataAnswer e (length input) (length out)) e input
 shows-is e (Call.Final out) =
@@ -580,8 +580,8 @@ unfolding step asked init doFinal
 judged-is e (Call.Init d key nonce size header) =
     let p = paramsOf (e .variant) in
     let b = repeats p (e .pair) key nonce in
-    rw (start-shows (startCheck p d (length key) (length nonce) size b) e d key nonce header)
-    (start-judged p (length key) (length nonce) size d b)
+    rw (start-shows (startCheck (e .variant) d (length key) (length nonce) size b) e d key nonce header)
+    (start-judged (e .variant) (length key) (length nonce) size d b)
 judged-is e (Call.Aad input) = refl
 judged-is e (Call.Data input out) = refl
 judged-is e (Call.Final out) =

@@ -50,11 +50,11 @@ abbrev begin : List ℕ → Call
 begin key = Call.Init Encrypt key zeros16 16 []
 
 -- A start with the right lengths is accepted, one with an empty key is not.
-begin-accepted : answerOf (paramsOf «Schwaemm128_128») (reader «Schwaemm128_128» []) (begin zeros16) ≡ ok 0
+begin-accepted : answerOf «Schwaemm128_128» (reader «Schwaemm128_128» []) (begin zeros16) ≡ ok 0
 unfolding answerOf reader readFrom startCheck
 begin-accepted = refl
 
-begin-refused : answerOf (paramsOf «Schwaemm128_128») (reader «Schwaemm128_128» []) (begin []) ≡ no (1 ∷ (0 ∷ []))
+begin-refused : answerOf «Schwaemm128_128» (reader «Schwaemm128_128» []) (begin []) ≡ no (1 ∷ (0 ∷ []))
 unfolding answerOf reader readFrom startCheck
 begin-refused = refl
 
@@ -109,7 +109,7 @@ module _ (f : ℕ → Line) (write : ℕ → Call → List ℕ) where
 
 -- An end after a start writes the tag's 16 bytes.
 end-accepted : (out : List ℕ) → length out ≡ 16
-    → answerOf (paramsOf «Schwaemm128_128») (reader «Schwaemm128_128» (begin zeros16 ∷ [])) (Call.Final out) ≡ ok 16
+    → answerOf «Schwaemm128_128» (reader «Schwaemm128_128» (begin zeros16 ∷ [])) (Call.Final out) ≡ ok 16
 unfolding answerOf reader readFrom read startCheck endCheck totalLen ready
 end-accepted out q = rw q
 
@@ -149,15 +149,15 @@ byte = Call.Data (0 ∷ []) []
 abbrev last : Call
 last = Call.Final (replicate 18 0)
 
-byte-accepted : answerOf (paramsOf «Schwaemm128_128») (reader «Schwaemm128_128» (begin zeros16 ∷ [])) byte ≡ ok 0
+byte-accepted : answerOf «Schwaemm128_128» (reader «Schwaemm128_128» (begin zeros16 ∷ [])) byte ≡ ok 0
 unfolding answerOf reader readFrom read startCheck dataCheck updateLen ready
 byte-accepted = refl
 
-last-of-one : answerOf (paramsOf «Schwaemm128_128») (reader «Schwaemm128_128» (begin zeros16 ∷ (byte ∷ []))) last ≡ ok 17
+last-of-one : answerOf «Schwaemm128_128» (reader «Schwaemm128_128» (begin zeros16 ∷ (byte ∷ []))) last ≡ ok 17
 unfolding answerOf reader readFrom read startCheck dataCheck updateLen endCheck totalLen ready
 last-of-one = refl
 
-last-of-two : answerOf (paramsOf «Schwaemm128_128») (reader «Schwaemm128_128» (begin zeros16 ∷ (byte ∷ (byte ∷ [])))) last
+last-of-two : answerOf «Schwaemm128_128» (reader «Schwaemm128_128» (begin zeros16 ∷ (byte ∷ (byte ∷ [])))) last
     ≡ ok 18
 unfolding answerOf reader readFrom read startCheck dataCheck updateLen endCheck totalLen ready
 last-of-two = refl
@@ -207,11 +207,11 @@ skipping-engine-fails-2 demand =
 -- ---- One inventing steps
 
 -- a mac call of a new engine leaves 0 steps, a start without header 10
-tag-steps : counts (paramsOf «Schwaemm128_128») newReader 0 (Call.Mac ∷ []) ≡ 0 ∷ []
+tag-steps : counts «Schwaemm128_128» newReader 0 (Call.Mac ∷ []) ≡ 0 ∷ []
 unfolding counts read
 tag-steps = refl
 
-begin-steps : counts (paramsOf «Schwaemm128_128») newReader 0 (begin zeros16 ∷ []) ≡ 10 ∷ []
+begin-steps : counts «Schwaemm128_128» newReader 0 (begin zeros16 ∷ []) ≡ 10 ∷ []
 unfolding counts read startCheck leading ready
 begin-steps = refl
 
@@ -338,26 +338,30 @@ end-ten p (Data d) held available opens right values q =
     absurd (end-not _ opens right values (past-not p (Data d) held available) q)
 end-ten p (Final d) held available opens right values q = (d, refl)
 
-pub ten-only-in-final : (p : Params) (r : Reader) (c : Call) (values : List ℕ) → answerOf p r c ≡ no (10 ∷ values)
+pub ten-only-in-final : (v : SparkleVariant) (r : Reader) (c : Call) (values : List ℕ) → answerOf v r c ≡ no (10 ∷ values)
     → (d : Direction) × (r .phase ≡ Final d)
 unfolding answerOf
-ten-only-in-final p r (Call.Init d key nonce size header) values q =
-    absurd (start-not (startCheck p d (length key) (length nonce) size (repeated r key nonce)) values q)
-ten-only-in-final p r (Call.Aad input) values q = header-ten (r .phase) (length input) values q
-ten-only-in-final p r (Call.Data input out) values q =
+ten-only-in-final v r (Call.Init d key nonce size header) values q =
+    absurd (start-not (startCheck v d (length key) (length nonce) size (repeated r key nonce)) values q)
+ten-only-in-final v r (Call.Aad input) values q = header-ten (r .phase) (length input) values q
+ten-only-in-final v r (Call.Data input out) values q =
+    let p = paramsOf v in
     data-ten p (r .phase) (readerHeld p r) (length input) (length out) values q
-ten-only-in-final p r (Call.Final out) values q =
+ten-only-in-final v r (Call.Final out) values q =
+    let p = paramsOf v in
     end-ten p (r .phase) (readerHeld p r) (length out) (opening (r .phase))
     (verified p (r .key) (r .nonce) (r .header) (r .body)) values q
-ten-only-in-final p r Call.Reset values q = absurd (ok-not 0 .never values q)
-ten-only-in-final p r Call.Mac values q = absurd (ok-not 0 .never values q)
-ten-only-in-final p r (Call.Update n) values q = absurd (update-not p (r .phase) (readerHeld p r) n .never values q)
-ten-only-in-final p r (Call.Output n) values q = absurd (total-not p (r .phase) (readerHeld p r) n .never values q)
+ten-only-in-final v r Call.Reset values q = absurd (ok-not 0 .never values q)
+ten-only-in-final v r Call.Mac values q = absurd (ok-not 0 .never values q)
+ten-only-in-final v r (Call.Update n) values q =
+    let p = paramsOf v in absurd (update-not p (r .phase) (readerHeld p r) n .never values q)
+ten-only-in-final v r (Call.Output n) values q =
+    let p = paramsOf v in absurd (total-not p (r .phase) (readerHeld p r) n .never values q)
 
 -- Every machine that answers 10 where the reader is not in Final fails demand 2.
 pub finalized-outside-fails-2 : (m : Machine) (v : SparkleVariant) (before : List Call) (c : Call) (values : List ℕ)
     → (c ≡ Call.Mac → ⊥) → ((d : Direction) → reader v before .phase ≡ Final d → ⊥)
     → m .step (after m (m .new v) before) c .line .outcome ≡ no (10 ∷ values) → Demand2 m → ⊥
 finalized-outside-fails-2 m v before c values other outside says demand =
-    let t = ten-only-in-final (paramsOf v) (reader v before) c values (sym (demand .answers v before c other) ∙ says) in
+    let t = ten-only-in-final v (reader v before) c values (sym (demand .answers v before c other) ∙ says) in
     outside (t .0) (t .1)

@@ -76,7 +76,7 @@ pub start-drops : (e : SparkleEngine) (d : Direction) (key nonce : List ℕ) (si
     → macOf (step e (Call.Init d key nonce size header) .engine) ≡ noMac
 unfolding step init
 start-drops e d key nonce size header =
-    start-drops-by (startCheck (paramsOf (e .variant)) d (length key) (length nonce) size
+    start-drops-by (startCheck (e .variant) d (length key) (length nonce) size
     (repeats (paramsOf (e .variant)) (e .pair) key nonce)) e d key nonce header
 
 pub reset-drops : (e : SparkleEngine) → macOf (step e Call.Reset .engine) ≡ noMac
@@ -100,13 +100,13 @@ end-shows false right before n = refl
 
 module _ (v : SparkleVariant) (e : SparkleEngine) (r : Reader) (w : Follows v e r) where
   end-step : (out : List ℕ) → macOf (step e (Call.Final out) .engine) .readable
-      ≡ shownAfter (paramsOf v) r (macOf e .readable) (Call.Final out)
+      ≡ shownAfter v r (macOf e .readable) (Call.Final out)
   unfolding shownAfter
   end-step out = by (endCheck (paramsOf v) (r .phase) (readerHeld (paramsOf v) r) (length out)) refl
     where
       by : (k : AeadResult) → endCheck (paramsOf v) (r .phase) (readerHeld (paramsOf v) r) (length out) ≡ k
           → macOf (step e (Call.Final out) .engine) .readable
-          ≡ shownAfter (paramsOf v) r (macOf e .readable) (Call.Final out)
+          ≡ shownAfter v r (macOf e .readable) (Call.Final out)
       by (Err x) q =
           unfold step in unfold doFinal in
           let E = engineOf v r (w .mac) (w .count) in
@@ -124,7 +124,7 @@ module _ (v : SparkleVariant) (e : SparkleEngine) (r : Reader) (w : Follows v e 
 
   -- ---- Every call.
 
-  shown-step : (c : Call) → macOf (step e c .engine) .readable ≡ shownAfter (paramsOf v) r (macOf e .readable) c
+  shown-step : (c : Call) → macOf (step e c .engine) .readable ≡ shownAfter v r (macOf e .readable) c
   unfolding shownAfter
   shown-step (Call.Init d key nonce size h) = dropped _ (start-drops e d key nonce size h)
   shown-step (Call.Aad input) =
@@ -142,22 +142,22 @@ module _ (v : SparkleVariant) (e : SparkleEngine) (r : Reader) (w : Follows v e 
 -- ---- Every list of calls.
 
 shown-from : (v : SparkleVariant) (calls : List Call) (e : SparkleEngine) (r : Reader) → Follows v e r
-    → map (λ (l : Line). l .readable) (lines e calls) ≡ shownTags (paramsOf v) r (macOf e .readable) calls
+    → map (λ (l : Line). l .readable) (lines e calls) ≡ shownTags v r (macOf e .readable) calls
 unfolding shownTags lines line
 shown-from v [] e r w = refl
 shown-from v (c ∷ calls) e r w =
-    let q = read (paramsOf v) r c .reader in
+    let q = read v r c .reader in
     ap (λ (bs : List Bool). macOf (step e c .engine) .readable ∷ bs)
     (shown-from v calls (step e c .engine) q (follows-step v e r w c))
-    ∙ ap (λ (b : Bool). b ∷ shownTags (paramsOf v) q b calls) (shown-step v e r w c)
+    ∙ ap (λ (b : Bool). b ∷ shownTags v q b calls) (shown-step v e r w c)
 
 pub sheet-shown : (v : SparkleVariant) (calls : List Call)
-    → map (λ (l : Line). l .readable) (sheet v calls) ≡ shownTags (paramsOf v) newReader false calls
+    → map (λ (l : Line). l .readable) (sheet v calls) ≡ shownTags v newReader false calls
 unfolding sheet newEngine macOf noMac
 sheet-shown v calls = shown-from v calls (newEngine v) newReader (follows-new v)
 
 -- The same of the engine as a machine.
 pub engine-shown : (v : SparkleVariant) (calls : List Call)
-    → map (λ (l : Line). l .readable) (sheetOf engine v calls) ≡ shownTags (paramsOf v) newReader false calls
+    → map (λ (l : Line). l .readable) (sheetOf engine v calls) ≡ shownTags v newReader false calls
 unfolding sheet
 engine-shown v calls = ap (map (λ (l : Line). l .readable)) (engine-lines (newEngine v) calls) ∙ sheet-shown v calls

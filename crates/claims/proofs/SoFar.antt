@@ -91,11 +91,11 @@ reset-nothing (Final Decrypt) p r is u = sym (released-none p _ _ _ _ (headerPha
 
 module _ (v : SparkleVariant) where
   so-far-step : (e : SparkleEngine) (r : Reader) → Follows v e r → (c : Call) (before : List ℕ)
-      → (UnderWay (r .phase) → before ≡ released (paramsOf v) r) → UnderWay (read (paramsOf v) r c .reader .phase)
-      → handedBy c before (wrote (step e c)) ≡ released (paramsOf v) (read (paramsOf v) r c .reader)
+      → (UnderWay (r .phase) → before ≡ released (paramsOf v) r) → UnderWay (read v r c .reader .phase)
+      → handedBy c before (wrote (step e c)) ≡ released (paramsOf v) (read v r c .reader)
   unfolding read
   so-far-step e r w (Call.Init d key nonce size h) before was u =
-      start-nothing (startCheck (paramsOf v) d (length key) (length nonce) size (repeated r key nonce)) (paramsOf v) r d key nonce h u
+      start-nothing (startCheck v d (length key) (length nonce) size (repeated r key nonce)) (paramsOf v) r d key nonce h u
   so-far-step e r w (Call.Aad input) before was u =
       ap (λ (l : List ℕ). l ++ wrote (step e (Call.Aad input)))
       (was (header-under (aadCheck (r .phase) (length input)) r input u))
@@ -108,7 +108,7 @@ module _ (v : SparkleVariant) where
       by (endCheck (paramsOf v) (r .phase) (readerHeld (paramsOf v) r) (length out)) refl
     where
       by : (k : AeadResult) → endCheck (paramsOf v) (r .phase) (readerHeld (paramsOf v) r) (length out) ≡ k
-          → before ++ wrote (step e (Call.Final out)) ≡ released (paramsOf v) (read (paramsOf v) r (Call.Final out) .reader)
+          → before ++ wrote (step e (Call.Final out)) ≡ released (paramsOf v) (read v r (Call.Final out) .reader)
       by (Ok n) q =
           absurd (ended-over (r .phase) (paramsOf v) r refl
           (subst (λ (k : AeadResult). UnderWay (readEnd k (paramsOf v) r .reader .phase)) q u))
@@ -125,12 +125,12 @@ module _ (v : SparkleVariant) where
       ap (λ (l : List ℕ). l ++ wrote (step e (Call.Output n))) (was u) ∙ sym (released-step v e r w (Call.Output n) tt)
 
   so-far-from : (e : SparkleEngine) (r : Reader) → Follows v e r → (calls : List Call) (before : List ℕ)
-      → (UnderWay (r .phase) → before ≡ released (paramsOf v) r) → UnderWay (readFrom (paramsOf v) r calls .phase)
-      → handed e before calls ≡ released (paramsOf v) (readFrom (paramsOf v) r calls)
+      → (UnderWay (r .phase) → before ≡ released (paramsOf v) r) → UnderWay (readFrom v r calls .phase)
+      → handed e before calls ≡ released (paramsOf v) (readFrom v r calls)
   unfolding readFrom handed
   so-far-from e r w [] before was u = was u
   so-far-from e r w (c ∷ calls) before was u =
-      so-far-from (step e c .engine) (read (paramsOf v) r c .reader) (follows-step v e r w c) calls _
+      so-far-from (step e c .engine) (read v r c .reader) (follows-step v e r w c) calls _
       (λ now. so-far-step e r w c before was now) u
 
   pub so-far : (calls : List Call) → UnderWay (reader v calls .phase)

@@ -31,13 +31,14 @@ use Rattle.tc_aead_cipher.proofs.VariantLaws.{sizes, small}
 use Rattle.tc_aead_cipher.specs.Call.{Call}
 use Rattle.tc_sparkle_aead.specs.Sheet.{StepResult, step, runFrom, run}
 use Rattle.tc_aead_cipher.specs.Outcome.{Outcome, outcome, startOutcome}
+use Rattle.claims.specs.Refused.{Active}
 use Rattle.claims.specs.Reader.{Reader, readerHeld, headerPhase, repeated, aadPhase, dataPhase, readHeader, readMessage}
 use Rattle.claims.specs.Reader.{readStart, readEnd, read, readFrom, reader}
 use Rattle.claims.specs.Messages.{released, Writes, countOf, wrote, outputs, headerIn, dataOf, RefusedByCheck, Between}
 use Rattle.claims.specs.Messages.{AllBetween, ifOk, acceptedHeader, acceptedData, startedEngine, OpenedUnrefused}
 use Rattle.claims.proofs.Points.{ready-zero}
 use Rattle.claims.proofs.Kept.{Follows, Standing, pairIn, engineOf, repeats-agree}
-use Rattle.claims.proofs.Follows.{Active, kept, follows-step, follows-from, follows-run, aad-some, header-answer}
+use Rattle.claims.proofs.Follows.{kept, follows-step, follows-from, follows-run, aad-some, header-answer}
 use Rattle.claims.proofs.Accepted.{active-opening}
 use Rattle.claims.proofs.Written.{message-outcome, message-writes-next, seal-end, open-end, end-refused}
 
@@ -59,13 +60,13 @@ not-passed true n o e f = let h = f .1 in let z : _≡_ {A = ℕ} 0 1 = cc in om
 not-passed false n o e f = let h = f .1 in f .2 (cc)
 
 pub end-unread : (v : SparkleVariant) (e : SparkleEngine) (r : Reader) → Follows v e r → (out : List ℕ)
-    → RefusedByCheck (step e (Call.Final out) .outcome) → read (paramsOf v) r (Call.Final out) .reader ≡ r
+    → RefusedByCheck (step e (Call.Final out) .outcome) → read v r (Call.Final out) .reader ≡ r
 unfolding read
 end-unread v e r w out f =
     by (endCheck (paramsOf v) (r .phase) (readerHeld (paramsOf v) r) (length out)) refl (opening (r .phase)) refl
   where
     by : (k : AeadResult) → endCheck (paramsOf v) (r .phase) (readerHeld (paramsOf v) r) (length out) ≡ k
-        → (o : Bool) → opening (r .phase) ≡ o → read (paramsOf v) r (Call.Final out) .reader ≡ r
+        → (o : Bool) → opening (r .phase) ≡ o → read v r (Call.Final out) .reader ≡ r
     by (Err x) q o is = ap (λ (k : AeadResult). readEnd k (paramsOf v) r .reader) q
     by (Ok n) q true is =
         absurd (not-passed (verified (paramsOf v) (r .key) (r .nonce) (r .header) (r .body)) n _
@@ -102,7 +103,7 @@ module _ (d : Direction) (key nonce : List ℕ) where
   going-message r input (Err x) g = g
 
   pub going-step : (v : SparkleVariant) (e : SparkleEngine) (r : Reader) → Follows v e r → (c : Call) → Between e c
-      → Going d key nonce r → Going d key nonce (read (paramsOf v) r c .reader)
+      → Going d key nonce r → Going d key nonce (read v r c .reader)
   unfolding read
   going-step v e r w (Call.Init d' k n size h) b g = absurd b
   going-step v e r w (Call.Aad input) b g = going-header r input (aadCheck (r .phase) (length input)) g
@@ -115,11 +116,11 @@ module _ (d : Direction) (key nonce : List ℕ) where
   going-step v e r w (Call.Output n) b g = g
 
   pub going-from : (v : SparkleVariant) (e : SparkleEngine) (r : Reader) → Follows v e r → (calls : List Call) → AllBetween e calls
-      → Going d key nonce r → Going d key nonce (readFrom (paramsOf v) r calls)
+      → Going d key nonce r → Going d key nonce (readFrom v r calls)
   unfolding readFrom
   going-from v e r w [] b g = g
   going-from v e r w (c ∷ calls) b g =
-      going-from v (step e c .engine) (read (paramsOf v) r c .reader) (follows-step v e r w c) calls (b .1)
+      going-from v (step e c .engine) (read v r c .reader) (follows-step v e r w c) calls (b .1)
       (going-step v e r w c (b .0) g)
 
 -- before the data nothing is given
@@ -159,7 +160,7 @@ released-more p (Data d) loaded key nonce initial header body mac n st x input =
 released-more p (Final d) loaded key nonce initial header body mac n st x input = refl
 
 released-header : (v : SparkleVariant) (e : SparkleEngine) (r : Reader) → Follows v e r → (input : List ℕ)
-    → released (paramsOf v) (read (paramsOf v) r (Call.Aad input) .reader) ≡ released (paramsOf v) r
+    → released (paramsOf v) (read v r (Call.Aad input) .reader) ≡ released (paramsOf v) r
 unfolding read aadCheck
 released-header v e r w [] =
     ap (λ (l : List ℕ). released (paramsOf v) (kept (r .loaded) (r .key) (r .nonce) (r .initial) (r .phase) l (r .body)))
@@ -171,14 +172,14 @@ released-header v e r w (x ∷ input) =
 
 -- a data call gives what it wrote
 released-message : (v : SparkleVariant) (e : SparkleEngine) (r : Reader) → Follows v e r → (input out : List ℕ)
-    → released (paramsOf v) (read (paramsOf v) r (Call.Data input out) .reader)
+    → released (paramsOf v) (read v r (Call.Data input out) .reader)
     ≡ released (paramsOf v) r ++ wrote (step e (Call.Data input out))
 unfolding wrote read
 released-message v e r w input out =
     by (dataCheck (paramsOf v) (r .phase) (readerHeld (paramsOf v) r) (length input) (length out)) refl
   where
     by : (k : AeadResult) → dataCheck (paramsOf v) (r .phase) (readerHeld (paramsOf v) r) (length input) (length out) ≡ k
-        → released (paramsOf v) (read (paramsOf v) r (Call.Data input out) .reader)
+        → released (paramsOf v) (read v r (Call.Data input out) .reader)
         ≡ released (paramsOf v) r ++ wrote (step e (Call.Data input out))
     by (Ok n) h =
         let o : step e (Call.Data input out) .outcome ≡ Outcome.ok n = message-outcome v e r w input out ∙ ap outcome h in
@@ -193,7 +194,7 @@ released-message v e r w input out =
 
 -- what calls between start and end give is what they wrote
 pub released-step : (v : SparkleVariant) (e : SparkleEngine) (r : Reader) → Follows v e r → (c : Call) → Between e c
-    → released (paramsOf v) (read (paramsOf v) r c .reader) ≡ released (paramsOf v) r ++ wrote (step e c)
+    → released (paramsOf v) (read v r c .reader) ≡ released (paramsOf v) r ++ wrote (step e c)
 unfolding step
 released-step v e r w (Call.Init d key nonce size h) b = absurd b
 released-step v e r w (Call.Aad input) b =
@@ -211,11 +212,11 @@ released-step v e r w (Call.Output n) b =
 
 released-from : (v : SparkleVariant) (e : SparkleEngine) (r : Reader) → Follows v e r → (calls : List Call)
     → AllBetween e calls
-    → released (paramsOf v) (readFrom (paramsOf v) r calls) ≡ released (paramsOf v) r ++ outputs e calls
+    → released (paramsOf v) (readFrom v r calls) ≡ released (paramsOf v) r ++ outputs e calls
 unfolding readFrom outputs
 released-from v e r w [] b = sym (append-nil (released (paramsOf v) r))
 released-from v e r w (c ∷ calls) b =
-    released-from v (step e c .engine) (read (paramsOf v) r c .reader) (follows-step v e r w c) calls (b .1)
+    released-from v (step e c .engine) (read v r c .reader) (follows-step v e r w c) calls (b .1)
     ∙ ap (λ (l : List ℕ). l ++ outputs (step e c .engine) calls) (released-step v e r w c (b .0))
     ∙ append-assoc (released (paramsOf v) r) (wrote (step e c)) (outputs (step e c .engine) calls)
 
@@ -258,7 +259,7 @@ header-outcome v e r w input =
     ∙ ap (λ (k : AeadResult). outcome (aadBy k K input .answer)) (header-answer v r (w .mac) (w .count) (length input))
 
 header-step-taken : (v : SparkleVariant) (e : SparkleEngine) (r : Reader) → Follows v e r → (c : Call) → Between e c
-    → read (paramsOf v) r c .reader .header ≡ r .header ++ ifOk (step e c .outcome) (headerIn c)
+    → read v r c .reader .header ≡ r .header ++ ifOk (step e c .outcome) (headerIn c)
 unfolding read
 header-step-taken v e r w (Call.Init d key nonce size h) b = absurd b
 header-step-taken v e r w (Call.Aad input) b =
@@ -275,7 +276,7 @@ header-step-taken v e r w (Call.Update n) b = same-kept (r .header) (r .header) 
 header-step-taken v e r w (Call.Output n) b = same-kept (r .header) (r .header) (step e (Call.Output n) .outcome) refl
 
 data-step-taken : (v : SparkleVariant) (e : SparkleEngine) (r : Reader) → Follows v e r → (c : Call) → Between e c
-    → read (paramsOf v) r c .reader .body ≡ r .body ++ ifOk (step e c .outcome) (dataOf c)
+    → read v r c .reader .body ≡ r .body ++ ifOk (step e c .outcome) (dataOf c)
 unfolding read
 data-step-taken v e r w (Call.Init d key nonce size h) b = absurd b
 data-step-taken v e r w (Call.Aad input) b =
@@ -292,21 +293,21 @@ data-step-taken v e r w (Call.Output n) b = same-kept (r .body) (r .body) (step 
 
 header-taken-from : (v : SparkleVariant) (e : SparkleEngine) (r : Reader) → Follows v e r → (calls : List Call)
     → AllBetween e calls
-    → readFrom (paramsOf v) r calls .header ≡ r .header ++ acceptedHeader e calls
+    → readFrom v r calls .header ≡ r .header ++ acceptedHeader e calls
 unfolding readFrom acceptedHeader
 header-taken-from v e r w [] b = sym (append-nil (r .header))
 header-taken-from v e r w (c ∷ calls) b =
-    header-taken-from v (step e c .engine) (read (paramsOf v) r c .reader) (follows-step v e r w c) calls (b .1)
+    header-taken-from v (step e c .engine) (read v r c .reader) (follows-step v e r w c) calls (b .1)
     ∙ ap (λ (l : List ℕ). l ++ acceptedHeader (step e c .engine) calls) (header-step-taken v e r w c (b .0))
     ∙ append-assoc (r .header) (ifOk (step e c .outcome) (headerIn c)) (acceptedHeader (step e c .engine) calls)
 
 data-taken-from : (v : SparkleVariant) (e : SparkleEngine) (r : Reader) → Follows v e r → (calls : List Call)
     → AllBetween e calls
-    → readFrom (paramsOf v) r calls .body ≡ r .body ++ acceptedData e calls
+    → readFrom v r calls .body ≡ r .body ++ acceptedData e calls
 unfolding readFrom acceptedData
 data-taken-from v e r w [] b = sym (append-nil (r .body))
 data-taken-from v e r w (c ∷ calls) b =
-    data-taken-from v (step e c .engine) (read (paramsOf v) r c .reader) (follows-step v e r w c) calls (b .1)
+    data-taken-from v (step e c .engine) (read v r c .reader) (follows-step v e r w c) calls (b .1)
     ∙ ap (λ (l : List ℕ). l ++ acceptedData (step e c .engine) calls) (data-step-taken v e r w c (b .0))
     ∙ append-assoc (r .body) (ifOk (step e c .outcome) (dataOf c)) (acceptedData (step e c .engine) calls)
 
@@ -324,26 +325,26 @@ start-answered (StartErr x) e d key nonce header = refl
 pub start-outcome : (v : SparkleVariant) (e : SparkleEngine) (r : Reader) → Follows v e r
     → (d : Direction) (key nonce : List ℕ) (size : ℕ) (h : List ℕ)
     → step e (Call.Init d key nonce size h) .outcome
-    ≡ startOutcome (startCheck (paramsOf v) d (length key) (length nonce) size (repeated r key nonce))
+    ≡ startOutcome (startCheck v d (length key) (length nonce) size (repeated r key nonce))
 unfolding step init
 start-outcome v e r w d key nonce size h =
     let p = paramsOf v in
     ap (λ (x : SparkleEngine). startOutcome (init x d key nonce size h .answer)) (w .same-engine)
     ∙ ap startOutcome
-    (start-answered (startCheck p d (length key) (length nonce) size (repeats p (pairIn (r .loaded) (r .key) (r .nonce)) key nonce))
+    (start-answered (startCheck v d (length key) (length nonce) size (repeats p (pairIn (r .loaded) (r .key) (r .nonce)) key nonce))
     (engineOf v r (w .mac) (w .count)) d key nonce h)
-    ∙ ap (λ (b : Bool). startOutcome (startCheck p d (length key) (length nonce) size b))
+    ∙ ap (λ (b : Bool). startOutcome (startCheck v d (length key) (length nonce) size b))
     (repeats-agree p (small v) (r .loaded) (r .key) (r .nonce) (w .fits) key nonce)
 
 start-read : (v : SparkleVariant) (e : SparkleEngine) (r : Reader) → Follows v e r
     → (d : Direction) (key nonce : List ℕ) (size : ℕ) (h : List ℕ) (n : ℕ)
     → step e (Call.Init d key nonce size h) .outcome ≡ Outcome.ok n
-    → read (paramsOf v) r (Call.Init d key nonce size h) .reader ≡ startedReader d key nonce h
+    → read v r (Call.Init d key nonce size h) .reader ≡ startedReader d key nonce h
 start-read v e r w d key nonce size h n o =
-    by (startCheck (paramsOf v) d (length key) (length nonce) size (repeated r key nonce)) refl
+    by (startCheck v d (length key) (length nonce) size (repeated r key nonce)) refl
   where
-    by : (k : AeadInitResult) → startCheck (paramsOf v) d (length key) (length nonce) size (repeated r key nonce) ≡ k
-        → read (paramsOf v) r (Call.Init d key nonce size h) .reader ≡ startedReader d key nonce h
+    by : (k : AeadInitResult) → startCheck v d (length key) (length nonce) size (repeated r key nonce) ≡ k
+        → read v r (Call.Init d key nonce size h) .reader ≡ startedReader d key nonce h
     by StartOk q = unfold read in ap (λ (k : AeadInitResult). readStart k r d key nonce h .reader) q
     by (StartErr x) q =
         absurd (let s = sym o ∙ start-outcome v e r w d key nonce size h ∙ ap startOutcome q in let z : _≡_ {A = ℕ} 0 1 = cc in omega arith)
@@ -356,7 +357,7 @@ started-going d key nonce (x ∷ header) = record { takes = Active.in-aad; key-i
 
 -- The reader after calls behind a start that is taken.
 abbrev pub lastReader : SparkleVariant → Direction → (key nonce initial : List ℕ) → List Call → Reader
-lastReader v d key nonce initial between = readFrom (paramsOf v) (startedReader d key nonce initial) between
+lastReader v d key nonce initial between = readFrom v (startedReader d key nonce initial) between
 
 module _ (v : SparkleVariant) (before : List Call) (d : Direction) (key nonce : List ℕ) (size : ℕ) (initial : List ℕ)
     (between : List Call) (out : List ℕ) where

@@ -9,7 +9,7 @@ use Rattle.tc_aead_cipher.specs.declared.variant.SparkleVariant.{SparkleVariant
 use Rattle.tc_aead_cipher.specs.declared.variant.SparkleVariant.the-variants.{«Schwaemm128_128»}
 use Rattle.tc_sparkle_aead.specs.declared.engine.SparkleEngine.{SparkleEngine}
 use Rattle.tc_sparkle_aead.specs.Message.{noMessage, noMac, zeros, finalPoint}
-use Rattle.tc_sparkle_aead.specs.Engine.{newEngine, noSteps, initSteps}
+use Rattle.tc_sparkle_aead.specs.Engine.{newEngine, noSteps, initSteps, refusedSteps}
 use Rattle.tc_sparkle_aead.specs.Calls.{addSteps}
 use Rattle.tc_aead_cipher.specs.Checks.{updateLen, totalLen, aadCheck, dataCheck, endCheck, startCheck}
 use Rattle.tc_aead_cipher.specs.Call.{Call}
@@ -61,7 +61,7 @@ pub worked-sheet : sheet «Schwaemm128_128» worked
     ∷ (row (no (9 ∷ [])) 41 false
     ∷ (row (no (4 ∷ (17 ∷ (16 ∷ [])))) 41 false
     ∷ (row (ok 17) 51 true ∷ (row (no (10 ∷ [])) 51 true ∷ (row (no (11 ∷ [])) 0 false ∷ [])))))))
-unfolding newEngine noMessage noMac noSteps initSteps zeros startCheck aadCheck dataCheck updateLen endCheck totalLen ready addSteps finalPoint
+unfolding newEngine noMessage noMac noSteps initSteps refusedSteps zeros startCheck aadCheck dataCheck updateLen endCheck totalLen ready addSteps finalPoint
 worked-sheet =
     sheet-public «Schwaemm128_128» worked
     ∙ ap (publicLines (publicOf (newEngine «Schwaemm128_128»)) (map shape worked)) worked-verdicts

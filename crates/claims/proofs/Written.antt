@@ -27,11 +27,12 @@ use Rattle.schwaemm.proofs.RoundTrip.{length-decrypt}
 use Rattle.tc_aead_cipher.specs.Call.{Call}
 use Rattle.tc_sparkle_aead.specs.Sheet.{StepResult, step}
 use Rattle.tc_aead_cipher.specs.Outcome.{Outcome, outcome}
+use Rattle.claims.specs.Refused.{Active}
 use Rattle.claims.specs.Reader.{Reader, readerHeld, inPhase, readMessage, read}
 use Rattle.claims.specs.Messages.{released, Writes, messageOf, EndsWith}
 use Rattle.claims.proofs.Packets.{length-body}
 use Rattle.claims.proofs.Kept.{Follows, Fits, Standing, engineOf, openedMac}
-use Rattle.claims.proofs.Follows.{Active, kept, inData, active-enough, begin-data, active-loaded, opening-verified}
+use Rattle.claims.proofs.Follows.{kept, inData, active-enough, begin-data, active-loaded, opening-verified}
 use Rattle.claims.proofs.Follows.{seal-engine, open-engine, data-answer, final-answer}
 use Rattle.claims.proofs.Accepted.{data-good, end-good, data-takes, end-takes, EndPassed, released-data, writes}
 use Rattle.claims.proofs.Accepted.{message-writes, seal-bytes, seal-length, open-bytes, open-length, last-length}
@@ -74,7 +75,7 @@ message-outcome v e r w input out =
 pub message-writes-next : (v : SparkleVariant) (e : SparkleEngine) (r : Reader) → Follows v e r
     → (input out : List ℕ) (n : ℕ)
     → step e (Call.Data input out) .outcome ≡ Outcome.ok n
-    → Writes (released (paramsOf v) r) (released (paramsOf v) (read (paramsOf v) r (Call.Data input out) .reader)) out
+    → Writes (released (paramsOf v) r) (released (paramsOf v) (read v r (Call.Data input out) .reader)) out
     (step e (Call.Data input out) .buffer) n
 unfolding step read processBytesOut
 message-writes-next v e r w input out n o =
@@ -85,7 +86,7 @@ message-writes-next v e r w input out n o =
     let A : dataAnswer E (length input) (length out) ≡ Ok n =
     data-answer v r (w .mac) (w .count) (length input) (length out) ∙ K in
     let t = data-takes p (r .phase) (readerHeld p r) (length input) (length out) n K in
-    subst (λ (x : SparkleEngine). Writes (released p r) (released p (read p r (Call.Data input out) .reader)) out
+    subst (λ (x : SparkleEngine). Writes (released p r) (released p (read v r (Call.Data input out) .reader)) out
     (processBytesOut x input out) n)
     (sym (w .same-engine))
     (subst (λ (k : AeadResult). Writes (released p r) (released p (readMessage k r input .reader)) out (processBytesOut E input out) n) (sym K)

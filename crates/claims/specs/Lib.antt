@@ -1,5 +1,4 @@
--- Lists of calls and their sheets, the plain reader of document 01, "Two lists, two sheets", and the words in which the
--- claims are stated.
+-- The plain reader of document 01, "Two lists, two sheets", and the words in which the claims are stated.
 pub mod Shape
 pub mod Reader
 pub mod Messages

@@ -109,12 +109,12 @@ stepsIn (Data d) old p before c r =
     (p .big + stepsOf p (length (r .header)) + ready (p .rate) (keep p (Data d)) (length (r .body)) * p .slim) % 2 ^ 64
 stepsIn (Final d) old p before c r = finalSteps c old p before d r
 
-unfoldable pub counts : Params → Reader → ℕ → List Call → List ℕ
-counts p r before [] = []
-counts p r before (c ∷ calls) =
-    let q = read p r c .reader in
-    let n = stepsIn (q .phase) (r .phase) p before c q in
-    n ∷ counts p q n calls
+unfoldable pub counts : SparkleVariant → Reader → ℕ → List Call → List ℕ
+counts v r before [] = []
+counts v r before (c ∷ calls) =
+    let q = read v r c .reader in
+    let n = stepsIn (q .phase) (r .phase) (paramsOf v) before c q in
+    n ∷ counts v q n calls
 
 -- A message: a start, data calls, each with its input and its output, and the end.
 pub record Piece : Type 0 where
@@ -139,7 +139,7 @@ pub data AllOk : List Line → Type 0 where
 pub record Demand2 (m : Machine) : Type 0 where
   -- every call after every list is answered as the tables say
   pub answers : (v : SparkleVariant) (before : List Call) (c : Call) → (c ≡ Call.Mac → ⊥)
-      → m .step (after m (m .new v) before) c .line .outcome ≡ answerOf (paramsOf v) (reader v before) c
+      → m .step (after m (m .new v) before) c .line .outcome ≡ answerOf v (reader v before) c
   -- however the data is cut, a sealing without refusal writes what the specification gives
   pub seals : (v : SparkleVariant) (key nonce header : List ℕ) (size : ℕ) (pieces : List Piece) (out : List ℕ)
       → AllOk (sheetOf m v (pieceCalls Encrypt key nonce header size pieces out))
@@ -159,13 +159,13 @@ pub record Demand2 (m : Machine) : Type 0 where
       → handedOf m (m .new v) [] (calls ++ (Call.Final out ∷ [])) ≡ finishedBytes (paramsOf v) (reader v calls)
   -- on every line a tag can be read where the calls before say so, and mac counts it
   pub shown : (v : SparkleVariant) (calls : List Call)
-      → map (λ (l : Line). l .readable) (sheetOf m v calls) ≡ shownTags (paramsOf v) newReader false calls
+      → map (λ (l : Line). l .readable) (sheetOf m v calls) ≡ shownTags v newReader false calls
   pub mac-counts : (v : SparkleVariant) (before : List Call)
       → m .step (after m (m .new v) before) Call.Mac .line .outcome
       ≡ ok (cond (m .step (after m (m .new v) before) Call.Mac .line .readable) (paramsOf v .key) 0)
   -- the steps of every line are the formula's
   pub counted : (v : SparkleVariant) (calls : List Call)
-      → map (λ (l : Line). l .steps) (sheetOf m v calls) ≡ counts (paramsOf v) newReader 0 calls
+      → map (λ (l : Line). l .steps) (sheetOf m v calls) ≡ counts v newReader 0 calls
 
 -- ---- Demand 3
 

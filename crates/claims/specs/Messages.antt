@@ -239,18 +239,20 @@ endOutcome (Ok n) false right = Outcome.ok n
 
 -- The outcome that document 01's tables give to a call, over what the reader keeps. Of mac nothing is asked here: its
 -- count goes by whether a tag can be read.
-unfoldable pub answerOf : Params → Reader → Call → Outcome
-answerOf p r (Call.Init d key nonce size h) =
-    startOutcome (startCheck p d (length key) (length nonce) size (repeated r key nonce))
-answerOf p r (Call.Aad input) = outcome (aadCheck (r .phase) (length input))
-answerOf p r (Call.Data input out) = outcome (dataCheck p (r .phase) (readerHeld p r) (length input) (length out))
-answerOf p r (Call.Final out) =
+unfoldable pub answerOf : SparkleVariant → Reader → Call → Outcome
+answerOf v r (Call.Init d key nonce size h) =
+    startOutcome (startCheck v d (length key) (length nonce) size (repeated r key nonce))
+answerOf v r (Call.Aad input) = outcome (aadCheck (r .phase) (length input))
+answerOf v r (Call.Data input out) =
+    let p = paramsOf v in outcome (dataCheck p (r .phase) (readerHeld p r) (length input) (length out))
+answerOf v r (Call.Final out) =
+    let p = paramsOf v in
     endOutcome (endCheck p (r .phase) (readerHeld p r) (length out)) (opening (r .phase))
     (verified p (r .key) (r .nonce) (r .header) (r .body))
-answerOf p r Call.Reset = Outcome.ok 0
-answerOf p r Call.Mac = Outcome.ok 0
-answerOf p r (Call.Update n) = outcome (updateLen p (r .phase) (readerHeld p r) n)
-answerOf p r (Call.Output n) = outcome (totalLen p (r .phase) (readerHeld p r) n)
+answerOf v r Call.Reset = Outcome.ok 0
+answerOf v r Call.Mac = Outcome.ok 0
+answerOf v r (Call.Update n) = let p = paramsOf v in outcome (updateLen p (r .phase) (readerHeld p r) n)
+answerOf v r (Call.Output n) = let p = paramsOf v in outcome (totalLen p (r .phase) (readerHeld p r) n)
 
 -- ---- Call by call: the bytes, the tag and the steps
 
@@ -313,23 +315,24 @@ shownByEnd (Err x) opens right before = before
 shownByEnd (Ok n) true right before = right
 shownByEnd (Ok n) false right before = true
 
-unfoldable pub shownAfter : Params → Reader → Bool → Call → Bool
-shownAfter p r before (Call.Init d key nonce size h) = false
-shownAfter p r before (Call.Aad input) = before
-shownAfter p r before (Call.Data input out) = before
-shownAfter p r before (Call.Final out) =
+unfoldable pub shownAfter : SparkleVariant → Reader → Bool → Call → Bool
+shownAfter v r before (Call.Init d key nonce size h) = false
+shownAfter v r before (Call.Aad input) = before
+shownAfter v r before (Call.Data input out) = before
+shownAfter v r before (Call.Final out) =
+    let p = paramsOf v in
     shownByEnd (endCheck p (r .phase) (readerHeld p r) (length out)) (opening (r .phase))
     (verified p (r .key) (r .nonce) (r .header) (r .body)) before
-shownAfter p r before Call.Reset = false
-shownAfter p r before Call.Mac = before
-shownAfter p r before (Call.Update n) = before
-shownAfter p r before (Call.Output n) = before
+shownAfter v r before Call.Reset = false
+shownAfter v r before Call.Mac = before
+shownAfter v r before (Call.Update n) = before
+shownAfter v r before (Call.Output n) = before
 
 -- The same after each call of a list.
-unfoldable pub shownTags : Params → Reader → Bool → List Call → List Bool
-shownTags p r before [] = []
-shownTags p r before (c ∷ calls) =
-    let now = shownAfter p r before c in now ∷ shownTags p (read p r c .reader) now calls
+unfoldable pub shownTags : SparkleVariant → Reader → Bool → List Call → List Bool
+shownTags v r before [] = []
+shownTags v r before (c ∷ calls) =
+    let now = shownAfter v r before c in now ∷ shownTags v (read v r c .reader) now calls
 
 -- The tag and the steps of an end past its checks: a sealing's data is its message, an opening's what its packet
 -- decrypts to.

@@ -76,7 +76,7 @@ abbrev pub headerPhase : Direction → List ℕ → Phase
 headerPhase d [] = Init d
 headerPhase d (x ∷ header) = Aad d
 
--- Document 01's d - r. The checks count it in Data alone (heldIn).
+-- Document 01's d - r. The checks count it in Data alone (heldData).
 abbrev pub readerHeld : Params → Reader → ℕ
 readerHeld p r =
     length (r .body) - ready (p .rate) (keep p (r .phase)) (length (r .body)) * p .rate
@@ -176,29 +176,31 @@ resetIn (Final Encrypt) r = r
 resetIn (Final Decrypt) r = restarted Decrypt r
 
 -- A call.
-unfoldable pub read : Params → Reader → Call → ReadResult
-read p r (Call.Init d key nonce size h) =
-    readStart (startCheck p d (length key) (length nonce) size (repeated r key nonce)) r d key nonce h
-read p r (Call.Aad input) = readHeader (aadCheck (r .phase) (length input)) r input
-read p r (Call.Data input out) =
+unfoldable pub read : SparkleVariant → Reader → Call → ReadResult
+read v r (Call.Init d key nonce size h) =
+    readStart (startCheck v d (length key) (length nonce) size (repeated r key nonce)) r d key nonce h
+read v r (Call.Aad input) = readHeader (aadCheck (r .phase) (length input)) r input
+read v r (Call.Data input out) =
+    let p = paramsOf v in
     readMessage (dataCheck p (r .phase) (readerHeld p r) (length input) (length out)) r input
-read p r (Call.Final out) = readEnd (endCheck p (r .phase) (readerHeld p r) (length out)) p r
-read p r Call.Reset = nothing (resetIn (r .phase) r)
-read p r Call.Mac = nothing r
-read p r (Call.Update n) = nothing r
-read p r (Call.Output n) = nothing r
+read v r (Call.Final out) =
+    let p = paramsOf v in readEnd (endCheck p (r .phase) (readerHeld p r) (length out)) p r
+read v r Call.Reset = nothing (resetIn (r .phase) r)
+read v r Call.Mac = nothing r
+read v r (Call.Update n) = nothing r
+read v r (Call.Output n) = nothing r
 
 -- The verdicts of a list of calls, and the reader after it.
-unfoldable pub notes : Params → Reader → List Call → List Verdict
-notes p r [] = []
-notes p r (c ∷ calls) = read p r c .verdict ∷ notes p (read p r c .reader) calls
+unfoldable pub notes : SparkleVariant → Reader → List Call → List Verdict
+notes v r [] = []
+notes v r (c ∷ calls) = read v r c .verdict ∷ notes v (read v r c .reader) calls
 
 unfoldable pub verdicts : SparkleVariant → List Call → List Verdict
-verdicts v calls = notes (paramsOf v) newReader calls
+verdicts v calls = notes v newReader calls
 
-unfoldable pub readFrom : Params → Reader → List Call → Reader
-readFrom p r [] = r
-readFrom p r (c ∷ calls) = readFrom p (read p r c .reader) calls
+unfoldable pub readFrom : SparkleVariant → Reader → List Call → Reader
+readFrom v r [] = r
+readFrom v r (c ∷ calls) = readFrom v (read v r c .reader) calls
 
 unfoldable pub reader : SparkleVariant → List Call → Reader
-reader v calls = readFrom (paramsOf v) newReader calls
+reader v calls = readFrom v newReader calls
