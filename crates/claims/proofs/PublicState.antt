@@ -1,8 +1,8 @@
 -- What of an engine the shapes of its calls and their verdicts decide: phases, counts, steps and whether a tag can be
 -- read, and no content. For every engine value the next public state and the line are functions of the public state, the
 -- call's shape and the verdict, and the verdict is a function of the public state, the shape and the outcome.
-use mathlib.Core.Path.{_≡_, refl, ap, _∙_}
-use mathlib.Core.Bool.{Bool, true, false, cond, not}
+use mathlib.Core.Path.{_≡_, refl, sym, ap, _∙_}
+use mathlib.Core.Bool.{Bool, true, false, cond}
 use mathlib.Core.List.{List, [], _∷_}
 use Prim.Native.Nat.{ℕ, zero, suc, _+_, _-_, _*_, _%_, _^_, min}
 use native.Mathlib.Omega.{arith}
@@ -18,6 +18,7 @@ use Rattle.tc_aead_cipher.specs.declared.phase.Phase.{Phase}
 use Rattle.tc_aead_cipher.specs.declared.phase.Phase.the-variants.{Uninitialized, Init, Aad, Data, Final}
 use Rattle.tc_aead_cipher.specs.declared.aead_error.AeadResult.{AeadResult}
 use Rattle.tc_aead_cipher.specs.declared.aead_error.AeadResult.the-variants.{Ok, Err}
+use Rattle.tc_aead_cipher.specs.declared.aead_init_error.AeadInitError.{AeadInitError}
 use Rattle.tc_aead_cipher.specs.declared.aead_init_error.AeadInitError.the-variants.{InvalidKeyLength, InvalidNonceLength, InvalidMacSize, NonceReuse}
 use Rattle.tc_aead_cipher.specs.declared.aead_init_error.AeadInitResult.{AeadInitResult}
 use Rattle.tc_aead_cipher.specs.declared.aead_init_error.AeadInitResult.the-variants.{Ok as StartOk, Err as StartErr}
@@ -25,12 +26,14 @@ use Rattle.tc_sparkle_aead.specs.declared.message.Point.{Point}
 use Rattle.tc_sparkle_aead.specs.declared.engine.Steps.{Steps}
 use Rattle.tc_sparkle_aead.specs.declared.engine.SparkleEngine.{SparkleEngine}
 use Rattle.tc_aead_cipher.specs.Variant.{paramsOf}
-use Rattle.tc_aead_cipher.specs.Checks.{opens, opening, keep, updateLen, totalLen, aadCheck, dataCheck, endCheck, startCheck}
+use Rattle.tc_aead_cipher.specs.Checks.{opening, keep, updateLen, totalLen, aadCheck, dataCheck, endCheck, startCheck}
 use Rattle.tc_sparkle_aead.specs.Message.{zeros, inArray, noMessage, noMac, bufferedCount, buffered, stream, blockCount, streamed, startPoint, absorbHeader, headerSteps, lastSteps, finalPoint, afterHeader, withoutHeader, readable, resetPoint}
 use Rattle.tc_sparkle_aead.specs.Engine.{initSteps, refusedSteps, resetSteps, repeats, updateOutputLen, outputLen}
 use Rattle.tc_sparkle_aead.specs.Calls.{addSteps, atPoint, aadIn, beginBy, beginData, dataIn, openBlock, finalEngine}
 use Rattle.tc_sparkle_aead.specs.Calls.{refused, started, init, initBy, aadBy, processAadBytes, dataBy, dataAnswer, finalAnswer, processBytes, receivedTag, openTag, sealFinal, openFinalBy, openFinal, finalBy, doFinal, macOf, stepsNow}
 use Rattle.tc_sparkle_aead.specs.Calls.{reset as resetEngine}
+use Rattle.tc_aead_cipher.proofs.CheckLaws.{StartCase, startCheck-case}
+use Rattle.tc_aead_cipher.proofs.CheckLaws.StartCase.{refused-before, opens-always, seals-by-pair}
 use Rattle.tc_aead_cipher.specs.Call.{Call}
 use Rattle.claims.specs.Shape.{Shape, shape}
 use Rattle.tc_aead_cipher.specs.Outcome.{Outcome, outcome, startOutcome}
@@ -307,49 +310,48 @@ judged u (Shape.Output n) o = None
 
 -- ---- The engine's calls on the public state
 
--- a start's check by its comparisons
-abbrev checkBy : ℕ → ℕ → ℕ → Bool → Bool → Bool → Direction → Bool → AeadInitResult
-checkBy key nonce size x y z d b =
-    cond x (StartErr (InvalidKeyLength key))
-    (cond y (StartErr (InvalidNonceLength nonce))
-    (cond z (StartErr (InvalidMacSize size)) (cond (opens d) StartOk (cond b (StartErr NonceReuse) StartOk))))
+-- only 11 notes what the pair is
+unnoted : (x : AeadInitError) (d : Direction) (b : Bool) → (x ≡ NonceReuse → ⊥) → refusedVerdict x d b ≡ None
+unnoted (InvalidKeyLength n) d b other = refl
+unnoted (InvalidNonceLength n) d b other = refl
+unnoted (InvalidMacSize n) d b other = refl
+unnoted NonceReuse d b other = absurd (other refl)
 
-module _ (key nonce size : ℕ) where
-  verdict-by : (x y z : Bool) (d : Direction) (b : Bool)
-      → checkBy key nonce size x y z d b
-      ≡ checkBy key nonce size x y z d (yes (startNote (checkBy key nonce size x y z d b) d b))
-  verdict-by true y z d b = refl
-  verdict-by false true z d b = refl
-  verdict-by false false true d b = refl
-  verdict-by false false false Decrypt b = refl
-  verdict-by false false false Encrypt true = refl
-  verdict-by false false false Encrypt false = refl
+-- a sealing past the other checks tells by its verdict, and by its outcome, whether its pair repeats
+told-by-verdict : (b : Bool) → yes (startNote (cond b (StartErr NonceReuse) StartOk) Encrypt b) ≡ b
+told-by-verdict true = refl
+told-by-verdict false = refl
 
-  judged-by : (x y z : Bool) (d : Direction) (b : Bool)
-      → startNote (checkBy key nonce size x y z d b) d b
-      ≡ startNote (checkBy key nonce size x y z d (isReuse (startOutcome (checkBy key nonce size x y z d b)))) d
-      (isReuse (startOutcome (checkBy key nonce size x y z d b)))
-  judged-by true y z d b = refl
-  judged-by false true z d b = refl
-  judged-by false false true d b = refl
-  judged-by false false false Decrypt b = refl
-  judged-by false false false Encrypt true = refl
-  judged-by false false false Encrypt false = refl
+told-by-outcome : (b : Bool) → isReuse (startOutcome (cond b (StartErr NonceReuse) StartOk)) ≡ b
+told-by-outcome true = refl
+told-by-outcome false = refl
 
 -- a start's check needs of the pair only what its verdict tells, and its outcome tells the verdict
-module _ (v : SparkleVariant) (key nonce size : ℕ) (d : Direction) (b : Bool) where
-  pub start-verdict : startCheck v d key nonce size b
-      ≡ startCheck v d key nonce size (yes (startNote (startCheck v d key nonce size b) d b))
-  unfolding startCheck
-  start-verdict =
-      verdict-by key nonce size (not (eqb key (paramsOf v .key))) (not (eqb nonce (paramsOf v .rate))) (not (eqb size (paramsOf v .key))) d b
+module _ (v : SparkleVariant) (key nonce size : ℕ) where
+  abbrev check : Direction → Bool → AeadInitResult
+  check d b = startCheck v d key nonce size b
 
-  start-judged : startNote (startCheck v d key nonce size b) d b
-      ≡ startNote (startCheck v d key nonce size (isReuse (startOutcome (startCheck v d key nonce size b)))) d
-      (isReuse (startOutcome (startCheck v d key nonce size b)))
-  unfolding startCheck
-  start-judged =
-      judged-by key nonce size (not (eqb key (paramsOf v .key))) (not (eqb nonce (paramsOf v .rate))) (not (eqb size (paramsOf v .key))) d b
+  verdict-by : {d : Direction} → StartCase v key nonce size d → (b : Bool)
+      → check d b ≡ check d (yes (startNote (check d b) d b))
+  verdict-by (refused-before x other is) b = is b ∙ sym (is _)
+  verdict-by (opens-always is) b = is b ∙ sym (is _)
+  verdict-by (seals-by-pair is) b = ap (check Encrypt) (sym (rw (is b) (told-by-verdict b)))
+
+  judged-by : {d : Direction} → StartCase v key nonce size d → (b : Bool)
+      → startNote (check d b) d b
+      ≡ startNote (check d (isReuse (startOutcome (check d b)))) d (isReuse (startOutcome (check d b)))
+  judged-by {d} (refused-before x other is) b = rw (is b, is, unnoted x d b other, unnoted x d _ other)
+  judged-by (opens-always is) b = rw (is b, is)
+  judged-by (seals-by-pair is) b =
+      ap (λ (c : Bool). startNote (check Encrypt c) Encrypt c) (sym (rw (is b) (told-by-outcome b)))
+
+  pub start-verdict : (d : Direction) (b : Bool) → check d b ≡ check d (yes (startNote (check d b) d b))
+  start-verdict d b = verdict-by (startCheck-case v key nonce size d) b
+
+  start-judged : (d : Direction) (b : Bool)
+      → startNote (check d b) d b
+      ≡ startNote (check d (isReuse (startOutcome (check d b)))) d (isReuse (startOutcome (check d b)))
+  start-judged d b = judged-by (startCheck-case v key nonce size d) b
 
 -- an end's answer and the public state after it need of the tag only what the verdict tells
 end-verdict : (k : AeadResult) (u : Public) (right : Bool)

@@ -3,6 +3,7 @@ use mathlib.Core.Path.{_≡_, refl, sym, ap, _∙_}
 use mathlib.Core.Bool.{Bool, true, false, cond}
 use Prim.Native.Nat.{ℕ, _+_, _-_, _*_, _^_, _≤_, _<_}
 use native.Mathlib.Omega.{arith}
+use native.Mathlib.Decide.{ℕ-discrete}
 use lib.Dec.{eqb}
 use borrow.Author.Tests.{lt-ltb, le-ltb, eq-eqb, ne-eqb, eqb-true, eqb-false}
 use Rattle.schwaemm.specs.Blocks.{ready}
@@ -11,11 +12,13 @@ use Rattle.tc_aead_cipher.specs.Checks.{opens, opening, heldData, keep, 
 use Rattle.tc_aead_cipher.specs.Variant.{paramsOf}
 use Rattle.tc_aead_cipher.specs.declared.variant.SparkleVariant.{SparkleVariant}
 use Rattle.tc_aead_cipher.specs.declared.phase.Direction.{Direction}
+use Rattle.tc_aead_cipher.specs.declared.phase.Direction.the-variants.{Encrypt, Decrypt}
 use Rattle.tc_aead_cipher.specs.declared.phase.Phase.{Phase}
 use Rattle.tc_aead_cipher.specs.declared.aead_error.AeadError.{AeadError}
 use Rattle.tc_aead_cipher.specs.declared.aead_error.AeadError.the-variants.{CiphertextTooShort, InputTooLong}
 use Rattle.tc_aead_cipher.specs.declared.aead_error.AeadResult.{AeadResult}
 use Rattle.tc_aead_cipher.specs.declared.aead_error.AeadResult.the-variants.{Ok, Err}
+use Rattle.tc_aead_cipher.specs.declared.aead_init_error.AeadInitError.{AeadInitError}
 use Rattle.tc_aead_cipher.specs.declared.aead_init_error.AeadInitError.the-variants.{InvalidKeyLength, InvalidNonceLength, InvalidMacSize, NonceReuse}
 use Rattle.tc_aead_cipher.specs.declared.aead_init_error.AeadInitResult.the-variants.{Ok as Started, Err as Refused}
 
@@ -88,6 +91,44 @@ module _ (v : SparkleVariant) (direction : Direction) (key nonce size : ℕ) (re
         → startCheck v direction key nonce size repeats ≡ cond repeats (Refused NonceReuse) Started
     unfolding startCheck
     startCheck-sealing is-sealing = rw (eq-eqb _ _ k, eq-eqb _ _ n, eq-eqb _ _ s, is-sealing) refl
+
+-- What of a start's check the pair decides: nothing where a check before it has failed, and nothing on an opening; a
+-- sealing past the other checks gets 11 exactly where its pair repeats.
+pub data StartCase (v : SparkleVariant) (key nonce size : ℕ) : Direction → Type 0 where
+  refused-before : {d : Direction} (x : AeadInitError) → (x ≡ NonceReuse → ⊥)
+      → ((repeats : Bool) → startCheck v d key nonce size repeats ≡ Refused x) → StartCase v key nonce size d
+  opens-always : ((repeats : Bool) → startCheck v Decrypt key nonce size repeats ≡ Started)
+      → StartCase v key nonce size Decrypt
+  seals-by-pair : ((repeats : Bool) → startCheck v Encrypt key nonce size repeats ≡ cond repeats (Refused NonceReuse) Started)
+      → StartCase v key nonce size Encrypt
+
+module _ (v : SparkleVariant) (key nonce size : ℕ) where
+  sizes-right : key ≡ paramsOf v .key → nonce ≡ paramsOf v .rate → size ≡ paramsOf v .key → (d : Direction)
+      → StartCase v key nonce size d
+  sizes-right k n s Encrypt = seals-by-pair (λ repeats. startCheck-sealing v Encrypt key nonce size repeats k n s refl)
+  sizes-right k n s Decrypt = opens-always (λ repeats. startCheck-opening v Decrypt key nonce size repeats k n s refl)
+
+  pub startCheck-case : (d : Direction) → StartCase v key nonce size d
+  startCheck-case d = by-key (ℕ-discrete key (paramsOf v .key))
+    where
+      by-size : key ≡ paramsOf v .key → nonce ≡ paramsOf v .rate → Dec (size ≡ paramsOf v .key)
+          → StartCase v key nonce size d
+      by-size k n (no wrong) =
+          refused-before (InvalidMacSize size) (λ e. let z : _≡_ {A = ℕ} 0 1 = cc in omega arith)
+          (λ repeats. startCheck-size v d key nonce size repeats k n wrong)
+      by-size k n (yes s) = sizes-right k n s d
+
+      by-nonce : key ≡ paramsOf v .key → Dec (nonce ≡ paramsOf v .rate) → StartCase v key nonce size d
+      by-nonce k (no wrong) =
+          refused-before (InvalidNonceLength nonce) (λ e. let z : _≡_ {A = ℕ} 0 1 = cc in omega arith)
+          (λ repeats. startCheck-nonce v d key nonce size repeats k wrong)
+      by-nonce k (yes n) = by-size k n (ℕ-discrete size (paramsOf v .key))
+
+      by-key : Dec (key ≡ paramsOf v .key) → StartCase v key nonce size d
+      by-key (no wrong) =
+          refused-before (InvalidKeyLength key) (λ e. let z : _≡_ {A = ℕ} 0 1 = cc in omega arith)
+          (λ repeats. startCheck-key v d key nonce size repeats wrong)
+      by-key (yes k) = by-nonce k (ℕ-discrete nonce (paramsOf v .rate))
 
 -- ---- An end's check, from what its parts answer.
 module _ (p : Params) (phase : Phase) (held available : ℕ) (first : AeadResult) (ef : first ≡ phaseCheck phase) where
