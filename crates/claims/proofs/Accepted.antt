@@ -30,14 +30,14 @@ use Rattle.tc_sparkle_aead.specs.Message.{stateIn, stream, blockCount, plainOf,
 use Rattle.tc_sparkle_aead.specs.Calls.{beginData, dataOut, sealLast, sealTag, openBlock, openLast}
 use Rattle.tc_aead_cipher.proofs.VariantLaws.{sizes, small}
 use Rattle.claims.specs.Refused.{Active}
-use Rattle.claims.specs.Reader.{Reader, readerHeld, dataPhase}
+use Rattle.claims.specs.Reader.{Reader, readerHeld, dataPhase, Load, lastKey, lastNonce}
 use Rattle.claims.specs.Messages.{released, Writes}
 use Rattle.claims.proofs.Points.{held-nil, blockPoint}
 use Rattle.claims.proofs.Packets.{packet-given}
-use Rattle.claims.proofs.Kept.{Fits, Standing, engineOf, dataPoint, pointIn, then-good, holds-data, state-data}
-use Rattle.claims.proofs.Kept.{data-given, phase-agrees}
-use Rattle.claims.proofs.Follows.{kept, inData, begin-data, sealing-state, sealing-block, sealing-tag}
-use Rattle.claims.proofs.Follows.{opening-block, opening-last}
+use Rattle.claims.proofs.Kept.{Standing, engineOf, dataPoint, pointIn, then-good, holds-data, state-data, Remembers}
+use Rattle.claims.proofs.Kept.{isLoaded, last-fits, data-given, phase-agrees}
+use Rattle.claims.proofs.Follows.{kept, inData, begin-data, sealing-state, sealing-block, sealing-tag, opening-block}
+use Rattle.claims.proofs.Follows.{opening-last}
 
 -- ---- What passed checks say
 
@@ -152,18 +152,24 @@ module _ (v : SparkleVariant) where
   abbrev p : Params
   p = paramsOf v
 
-  module _ (loaded : Bool) (key nonce initial : List ℕ) where
+  module _ (loads : List Load) (initial : List ℕ) where
+    abbrev key : List ℕ
+    key = lastKey loads
+
+    abbrev nonce : List ℕ
+    nonce = lastNonce loads
+
     -- the reader by its other parts, and the engine in its data
     abbrev keeps : Phase → (header body : List ℕ) → Reader
-    keeps phase header body = kept loaded key nonce initial phase header body
+    keeps phase header body = kept loads initial phase header body
 
     abbrev dataEngine : Direction → (header body : List ℕ) → SparkleEngine
-    dataEngine d header body = inData v loaded key nonce initial d header body
+    dataEngine d header body = inData v loads initial d header body
 
-    module _ (f : loaded ≡ true → Fits p key nonce) (header body : List ℕ) (mac : Mac) (n : ℕ) where
+    module _ (f : Remembers p loads) (header body : List ℕ) (mac : Mac) (n : ℕ) where
       -- what is held
       pub buffered-count : {d : Direction} {phase : Phase} → Active d phase
-          → Standing p phase loaded key nonce initial header body mac n
+          → Standing p phase loads initial header body mac n
           → heldData p phase (readerHeld p (keeps phase header body))
           ≡ length (held (p .rate) (keep p (Data d)) body)
       buffered-count {d = d} Active.in-init st =
@@ -213,7 +219,7 @@ module _ (v : SparkleVariant) where
             ∙ length-append (held (p .rate) (keep p (Data d)) body) input)
 
       pub message-writes : {d : Direction} {phase : Phase} → Active d phase
-          → Standing p phase loaded key nonce initial header body mac n
+          → Standing p phase loads initial header body mac n
           → (input out : List ℕ) (k : ℕ)
           → DataPassed p phase (readerHeld p (keeps phase header body)) (length input) (length out) k
           → Writes (released p (keeps phase header body))
@@ -221,7 +227,7 @@ module _ (v : SparkleVariant) where
           out (written (dataOut (beginData (engineOf v (keeps phase header body) mac n)) input) out) k
       message-writes {d} {phase} t st input out k ok =
           let r = keeps phase header body in
-          let is = begin-data v loaded key nonce initial f t header body mac n st in
+          let is = begin-data v loads initial f t header body mac n st in
           let e : released p (keeps (dataPhase phase) header (body ++ input))
           ≡ released p r ++ dataOut (beginData (engineOf v r mac n)) input =
           ap (λ (x : Phase). released p (keeps x header (body ++ input))) (active-phase t)
@@ -236,15 +242,15 @@ module _ (v : SparkleVariant) where
           writes (released p r) _ out (dataOut (beginData (engineOf v r mac n)) input) k e l (ok .fits)
 
       -- the end of a sealing
-      pub seal-bytes : loaded ≡ true → seal p key nonce header body
+      pub seal-bytes : isLoaded loads ≡ true → seal p key nonce header body
           ≡ released p (keeps (Data Encrypt) header body)
           ++ (sealLast (dataEngine Encrypt header body) ++ sealTag (dataEngine Encrypt header body))
       unfolding seal encrypt crypted released sealLast leading plainOf plainBy
       seal-bytes l =
           rw (
-            sealing-tag v loaded key nonce initial f l header body,
-            sealing-state v loaded key nonce initial f l header body,
-            sealing-block v loaded key nonce initial f l header body,
+            sealing-tag v loads initial f l header body,
+            sealing-state v loads initial f l header body,
+            sealing-block v loads initial f l header body,
           )
           (append-assoc
           (given (p .rate) (messageBlock p (sealing p)) (crypt p) (ready (p .rate) 0 (length body))
@@ -252,7 +258,7 @@ module _ (v : SparkleVariant) where
           (crypt p (beforeLast p (sealing p) (prepared p key nonce header) body) (lastBlock p body))
           (tag p key nonce header body))
 
-      pub seal-length : loaded ≡ true
+      pub seal-length : isLoaded loads ≡ true
           → length (sealLast (dataEngine Encrypt header body) ++ sealTag (dataEngine Encrypt header body))
           ≡ length (held (p .rate) 0 body) + p .key
       unfolding sealLast
@@ -260,16 +266,16 @@ module _ (v : SparkleVariant) where
           let first = prepared p key nonce header in
           let b = length-beforeLast p (sizes v) (sealing p) first body (length-prepared p (sizes v) key nonce header) in
           rw (
-            sealing-tag v loaded key nonce initial f l header body,
-            sealing-state v loaded key nonce initial f l header body,
-            sealing-block v loaded key nonce initial f l header body,
+            sealing-tag v loads initial f l header body,
+            sealing-state v loads initial f l header body,
+            sealing-block v loads initial f l header body,
           )
           (simp length-append
           (omega (
             arith,
             length-crypt p (sizes v) (beforeLast p (sealing p) first body) b (lastBlock p body),
             lastBlock-fits p (sizes v) body,
-            length-tag p (sizes v) key nonce header (f l .key-fits) body,
+            length-tag p (sizes v) key nonce header (last-fits p loads f l .key-fits) body,
             held-last,
           )))
         where
@@ -277,14 +283,14 @@ module _ (v : SparkleVariant) where
           held-last = unfold held lastBlock leading in refl
 
       -- the end of an opening
-      module _ (l : loaded ≡ true) (enough : p .key ≤ length body) where
+      module _ (l : isLoaded loads ≡ true) (enough : p .key ≤ length body) where
         pub open-bytes : decrypt p key nonce header (bodyOf p body)
             ≡ released p (keeps (Data Decrypt) header body)
             ++ openLast (dataEngine Decrypt header body)
         unfolding decrypt crypted released plainOf plainBy
         open-bytes =
             rw (
-              opening-last v loaded key nonce initial f l header body enough,
+              opening-last v loads initial f l header body enough,
               packet-given p body enough (messageBlock p (openingBlock p)) (crypt p) (prepared p key nonce header),
             )
 
@@ -301,18 +307,18 @@ module _ (v : SparkleVariant) where
             let first = prepared p key nonce header in
             let c = bodyOf p body in
             let b = length-beforeLast p (sizes v) (openingBlock p) first c (length-prepared p (sizes v) key nonce header) in
-            ap length (opening-last v loaded key nonce initial f l header body enough)
+            ap length (opening-last v loads initial f l header body enough)
             ∙ omega (
               arith,
               length-crypt p (sizes v) (beforeLast p (openingBlock p) first c) b (lastBlock p c),
               lastBlock-fits p (sizes v) c,
               open-length,
-              ap length (opening-block v loaded key nonce initial f l header body enough),
+              ap length (opening-block v loads initial f l header body enough),
             )
 
       -- the end, past its checks, by the direction
       module _ {d : Direction} {phase : Phase} (t : Active d phase)
-          (st : Standing p phase loaded key nonce initial header body mac n)
+          (st : Standing p phase loads initial header body mac n)
           (out : List ℕ) (k : ℕ)
           (ok : EndPassed p phase (readerHeld p (keeps phase header body)) (length out) k) where
         pub is-open : opening (pointIn p phase key nonce header body .phase) ≡ opens d

@@ -18,7 +18,7 @@ use Rattle.tc_sparkle_aead.specs.Calls.{aadBy}
 use Rattle.tc_aead_cipher.specs.Call.{Call}
 use Rattle.tc_sparkle_aead.specs.Sheet.{step, run}
 use Rattle.tc_aead_cipher.specs.Outcome.{Outcome, outcome}
-use Rattle.claims.specs.Reader.{Reader, readerHeld, reader}
+use Rattle.claims.specs.Reader.{Reader, readerHeld, reader, loadedKey, loadedNonce}
 use Rattle.claims.specs.Messages.{openOutcome, Asked, endOutcome, answerOf}
 use Rattle.claims.proofs.Kept.{Follows, engineOf}
 use Rattle.claims.proofs.Follows.{follows-run, aad-some}
@@ -48,11 +48,11 @@ open-is false n = refl
 
 end-answer : (v : SparkleVariant) (e : SparkleEngine) (r : Reader) → Follows v e r → (out : List ℕ) (k : AeadResult)
     → endCheck (paramsOf v) (r .phase) (readerHeld (paramsOf v) r) (length out) ≡ k → (o : Bool) → opening (r .phase) ≡ o
-    → step e (Call.Final out) .outcome ≡ endOutcome k o (verified (paramsOf v) (r .key) (r .nonce) (r .header) (r .body))
+    → step e (Call.Final out) .outcome ≡ endOutcome k o (verified (paramsOf v) (loadedKey r) (loadedNonce r) (r .header) (r .body))
 end-answer v e r w out (Err x) q o is = end-refused v e r w out x q
 end-answer v e r w out (Ok n) q true is =
     open-end v e r w out n q is .outcome-is
-    ∙ open-is (verified (paramsOf v) (r .key) (r .nonce) (r .header) (r .body)) n
+    ∙ open-is (verified (paramsOf v) (loadedKey r) (loadedNonce r) (r .header) (r .body)) n
 end-answer v e r w out (Ok n) q false is = seal-end v e r w out n q is .outcome-is
 
 pub answer-step : (v : SparkleVariant) (e : SparkleEngine) (r : Reader) → Follows v e r → (c : Call) → Asked c

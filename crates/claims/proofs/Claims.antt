@@ -27,13 +27,13 @@ use Rattle.tc_aead_cipher.specs.Call.{Call}
 use Rattle.claims.specs.Shape.{Alike}
 use Rattle.tc_sparkle_aead.specs.Sheet.{step, Line, sheet, runFrom, run}
 use Rattle.tc_aead_cipher.specs.Outcome.Outcome.{ok, no}
-use Rattle.claims.specs.Reader.{newReader, readerHeld, repeated, read, reader, verdicts}
+use Rattle.claims.specs.Reader.{newReader, readerHeld, repeated, read, reader, verdicts, loadedKey, loadedNonce}
 use Rattle.claims.specs.Reader.Verdict.{Yes, No, None}
-use Rattle.claims.specs.Messages.{Each, outputs, headerBytes, dataBytes, HeaderCall, DataCall, messageCalls, Rooms, Ample}
-use Rattle.claims.specs.Messages.{Completes, Rejects, RoundTrip}
-use Rattle.claims.specs.Messages.{AllBetween, acceptedHeader, acceptedData, startedEngine, OpenedUnrefused, Asked, answerOf}
-use Rattle.claims.specs.Messages.{released, Writes, finishedBytes, messageOf, OpenEndExact, EndsWith, Before, stepsBefore}
-use Rattle.claims.specs.Messages.{stepsAfterInit, Keeps, handed, UnderWay, shownTags}
+use Rattle.claims.specs.Messages.{Each, outputs, headerBytes, dataBytes, HeaderCall, DataCall, messageCalls, Rooms}
+use Rattle.claims.specs.Messages.{Ample, Completes, Rejects, RoundTrip, AllBetween, acceptedHeader, acceptedData}
+use Rattle.claims.specs.Messages.{startedEngine, OpenedUnrefused, Asked, answerOf, released, Writes, finishedBytes}
+use Rattle.claims.specs.Messages.{messageOf, OpenEndExact, EndsWith, Before, stepsBefore, stepsAfterInit, Keeps, handed}
+use Rattle.claims.specs.Messages.{UnderWay, shownTags}
 use Rattle.claims.specs.Refused.{Refused, OfStart, Unchanging, Numbered, Returned, Wiped, Unchanged, Failed, lent}
 use Rattle.claims.specs.Machine.{Machine, engine, after, counts, Demand2, Demand3}
 use Rattle.claims.specs.Rejected.{notInitialized, fixed, untouched, skipping, inventing, finalizing}
@@ -45,15 +45,15 @@ use Rattle.claims.proofs.Whole.{sealed-unrefused, opened-unrefused, ret
 use Rattle.claims.proofs.Messages.{sealed, rooms-ample, opened-sealed, opened, rejected}
 use Rattle.claims.proofs.Answers.{answers}
 use Rattle.claims.proofs.Demand2.{open-end-exact, mac-bytes, steps-before-end, end-tag-and-steps, end-accepted}
-use Rattle.claims.proofs.Demand2.{steps-reset, steps-new, steps-refused-start}
-use Rattle.claims.proofs.Demand2.{final-keeps-all, message-bytes, end-bytes, phase-is, held-at-most, held-at-most-64}
+use Rattle.claims.proofs.Demand2.{steps-reset, steps-new, steps-refused-start, final-keeps-all, message-bytes}
+use Rattle.claims.proofs.Demand2.{end-bytes, phase-is, held-at-most, held-at-most-64}
 use Rattle.claims.proofs.SoFar.{so-far, finished}
 use Rattle.claims.proofs.Shown.{sheet-shown, start-drops, reset-drops}
 use Rattle.claims.proofs.EngineCounts.{sheet-counted}
 use Rattle.claims.proofs.EngineSeals.{engine-demand-2}
 use Rattle.claims.proofs.Rejected.{notInitialized-fails-2, notInitialized-fails-3, fixed-fails-2, fixed-fails-3}
-use Rattle.claims.proofs.Rejected.{untouched-fails-2, untouched-engine-fails-2}
-use Rattle.claims.proofs.Rejected.{skipping-fails-2, skipping-engine-fails-2, inventing-fails-2, constant-steps-fail-2}
+use Rattle.claims.proofs.Rejected.{untouched-fails-2, untouched-engine-fails-2, skipping-fails-2}
+use Rattle.claims.proofs.Rejected.{skipping-engine-fails-2, inventing-fails-2, constant-steps-fail-2}
 use Rattle.claims.proofs.Rejected.{finalizing-fails-2, finalized-outside-fails-2}
 use Rattle.claims.proofs.WorkedSheet.{worked-sheet, worked-verdicts}
 
@@ -216,7 +216,7 @@ wrong-tag-is-rejected = rejected
 -- 2.4, the tag that is shown: whenever one can be read, it is the specification's of the message.
 pub readable-tag-is-the-specifications : (v : SparkleVariant) (calls : List Call) → macOf (run v calls) .readable ≡ true
     → macOf (run v calls)
-    ≡ readable (tag (paramsOf v) (reader v calls .key) (reader v calls .nonce) (reader v calls .header)
+    ≡ readable (tag (paramsOf v) (loadedKey (reader v calls)) (loadedNonce (reader v calls)) (reader v calls .header)
     (messageOf (paramsOf v) (reader v calls)))
 readable-tag-is-the-specifications = mac-bytes
 
@@ -251,7 +251,7 @@ pub steps-and-tag-after-an-end : (v : SparkleVariant) (calls : List Call) (out :
     → endCheck (paramsOf v) (reader v calls .phase) (readerHeld (paramsOf v) (reader v calls)) (length out) ≡ Ok n
     → EndsWith v (reader v calls)
     (cond (opening (reader v calls .phase))
-    (verified (paramsOf v) (reader v calls .key) (reader v calls .nonce) (reader v calls .header)
+    (verified (paramsOf v) (loadedKey (reader v calls)) (loadedNonce (reader v calls)) (reader v calls .header)
     (reader v calls .body)) true)
     (step (run v calls) (Call.Final out) .engine)
 steps-and-tag-after-an-end = end-tag-and-steps

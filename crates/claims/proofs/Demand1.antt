@@ -5,7 +5,7 @@ use mathlib.Core.Bool.{Bool, true, false, cond}
 use mathlib.Core.List.{List, [], _∷_}
 use Prim.Native.Nat.{ℕ, _+_, _-_, _*_, _^_, _≤_, _<_, min}
 use native.Mathlib.Omega.{arith}
-use lib.ListN.{length, take, length-take, length-replicate}
+use lib.ListN.{length, length-take, length-replicate}
 use Rattle.schwaemm.specs.Bytes.{same}
 use Rattle.tc_aead_cipher.specs.declared.phase.Direction.{Direction}
 use Rattle.tc_aead_cipher.specs.declared.phase.Direction.the-variants.{Encrypt, Decrypt}
@@ -19,7 +19,6 @@ use Rattle.tc_aead_cipher.specs.declared.aead_error.AeadResult.the-variants.{Ok
 use Rattle.tc_aead_cipher.specs.declared.aead_init_error.AeadInitResult.{AeadInitResult}
 use Rattle.tc_aead_cipher.specs.declared.aead_init_error.AeadInitResult.the-variants.{Ok as StartOk, Err as StartErr}
 use Rattle.tc_sparkle_aead.specs.declared.engine.SparkleEngine.{SparkleEngine}
-use Rattle.tc_sparkle_aead.specs.declared.engine.Pair.{Pair}
 use Rattle.tc_aead_cipher.specs.Variant.{paramsOf}
 use Rattle.tc_aead_cipher.specs.Checks.{opens, opening, heldData, phaseCheck, headerCheck, updateLen, totalLen, aadCheck}
 use Rattle.tc_aead_cipher.specs.Checks.{dataCheck, endCheck, startCheck}
@@ -46,12 +45,12 @@ use Rattle.tc_aead_cipher.specs.Outcome.{Outcome, outcome, startOutcome}
 use Rattle.tc_sparkle_aead.specs.Sheet.{step}
 use Rattle.tc_aead_cipher.specs.Outcome.Outcome.{ok, no}
 use Rattle.claims.specs.Refused.{Returned, work-done, numbered-refusal, Active, in-init, in-aad, in-data, HasDirection}
-use Rattle.claims.specs.Refused.{no-message, of-init, of-aad, of-data, of-final, heldAt, engineHeld, keyOf, rateOf, dataWrites}
-use Rattle.claims.specs.Refused.{endWrites, outputSum, Refused, key-length, nonce-length, mac-size, data-room, end-room}
-use Rattle.claims.specs.Refused.{no-tag, tag-differs, data-sum, update-sum, output-sum, header-not-initialized}
-use Rattle.claims.specs.Refused.{data-not-initialized, end-not-initialized, header-after-data, header-finalized}
-use Rattle.claims.specs.Refused.{data-finalized, end-finalized, nonce-reuse, OfStart, one, two, three, eleven}
-use Rattle.claims.specs.Refused.{Unchanging, four, five, seven, eight, nine, ten, Numbered, of-start, of-tag}
+use Rattle.claims.specs.Refused.{Repeats, no-message, of-init, of-aad, of-data, of-final, heldAt, engineHeld, keyOf}
+use Rattle.claims.specs.Refused.{rateOf, dataWrites, endWrites, outputSum, Refused, key-length, nonce-length, mac-size}
+use Rattle.claims.specs.Refused.{data-room, end-room, no-tag, tag-differs, data-sum, update-sum, output-sum}
+use Rattle.claims.specs.Refused.{header-not-initialized, data-not-initialized, end-not-initialized, header-after-data}
+use Rattle.claims.specs.Refused.{header-finalized, data-finalized, end-finalized, nonce-reuse, OfStart, one, two, three}
+use Rattle.claims.specs.Refused.{eleven, Unchanging, four, five, seven, eight, nine, ten, Numbered, of-start, of-tag}
 use Rattle.claims.specs.Refused.{unchanging, Wiped, Unchanged, Failed}
 
 -- ---- The checks, by the phases that take calls
@@ -211,10 +210,23 @@ opening-end : (e : SparkleEngine) (n : ℕ) (b : Bool) → e .current .phase ≡
 unfolding openFinal
 opening-end e n b q h = rw (begun e Decrypt q, h, q)
 
+-- The engine's comparison says whether a pair repeats.
+module _ (e : SparkleEngine) (key nonce : List ℕ) where
+  compared : Repeats e key nonce → repeats (paramsOf (e .variant)) (e .pair) key nonce ≡ true
+  unfolding repeats
+  compared again = rw (again .0, same-of-equal _ _ (again .1), same-of-equal _ _ (again .2))
+
+  repeats-true : repeats (paramsOf (e .variant)) (e .pair) key nonce ≡ true → Repeats e key nonce
+  unfolding repeats
+  repeats-true q =
+      let t = both-true _ _ q in
+      let u = both-true _ _ (t .1) in
+      (t .0, equal-of-same _ _ (u .0), equal-of-same _ _ (u .1))
+
 module _ (e : SparkleEngine) where
   -- Where its line holds, a refusal comes back.
   pub refused-comes-back : (c : Call) (r : List ℕ) → Refused e c r → step e c .outcome ≡ no r
-  unfolding step initCall processAadBytes processBytes doFinal updateOutputLen outputLen repeats
+  unfolding step initCall processAadBytes processBytes doFinal updateOutputLen outputLen
   refused-comes-back c r (key-length w) = rw startCheck-key
   refused-comes-back c r (nonce-length k w) = rw startCheck-nonce
   refused-comes-back c r (mac-size k n w) = rw startCheck-size
@@ -234,16 +246,8 @@ module _ (e : SparkleEngine) where
   refused-comes-back c r (header-finalized some q) = rw (header-law, q)
   refused-comes-back c r (data-finalized q) = unfold dataCheck in rw q
   refused-comes-back c r (end-finalized q) = unfold endCheck in rw q
-  refused-comes-back c r (nonce-reuse k n s loaded key nonce) =
-      rw (startCheck-sealing (e .variant) Encrypt _ _ _ _ k n s refl, loaded, same-of-equal _ _ key, same-of-equal _ _ nonce)
-
-repeats-true : (p : Params) (pair : Pair) (key nonce : List ℕ) → repeats p pair key nonce ≡ true
-    → (pair .loaded ≡ true) × (take (p .key) (pair .key) ≡ key) × (take (p .rate) (pair .nonce) ≡ nonce)
-unfolding repeats
-repeats-true p pair key nonce q =
-    let t = both-true _ _ q in
-    let u = both-true _ _ (t .1) in
-    (t .0, equal-of-same _ _ (u .0), equal-of-same _ _ (u .1))
+  refused-comes-back c r (nonce-reuse {key} {nonce} k n s again) =
+      rw (startCheck-sealing (e .variant) Encrypt _ _ _ _ k n s refl, compared e key nonce again)
 
 module _ (e : SparkleEngine) (key nonce header : List ℕ) (size : ℕ) (k : length key ≡ keyOf e)
     (n : length nonce ≡ rateOf e) (s : size ≡ keyOf e) where
@@ -323,9 +327,7 @@ module _ (e : SparkleEngine) where
         where
           by-pair : (b : Bool) → repeats (paramsOf (e .variant)) (e .pair) key nonce ≡ b
               → Told e (Call.Init Encrypt key nonce size header) (step e (Call.Init Encrypt key nonce size header) .outcome)
-          by-pair true q =
-              let t = repeats-true (paramsOf (e .variant)) (e .pair) key nonce q in
-              told-number (nonce-reuse k n s (t .0) (t .1) (t .2))
+          by-pair true q = told-number (nonce-reuse k n s (repeats-true e key nonce q))
           by-pair false q = told-count (start-fresh e key nonce header size k n s q)
       by-repeat Decrypt k n s = told-count (start-opening e key nonce header size k n s)
 
@@ -475,7 +477,7 @@ numbered e c r (header-after-data some q) = unchanging nine
 numbered e c r (header-finalized some q) = unchanging ten
 numbered e c r (data-finalized q) = unchanging ten
 numbered e c r (end-finalized q) = unchanging ten
-numbered e c r (nonce-reuse k n s loaded key nonce) = of-start eleven
+numbered e c r (nonce-reuse k n s again) = of-start eleven
 
 -- A call that is refused comes back with one of eleven numbers.
 pub refusal-numbers : (e : SparkleEngine) (c : Call) (r : List ℕ) → step e c .outcome ≡ no r → Numbered r
@@ -514,7 +516,7 @@ module _ (e : SparkleEngine) where
       start-wipes d key nonce header _ size q
   start-number c n values three (mac-size {d} {key} {nonce} {header} {size} k m w) q =
       start-wipes d key nonce header _ size q
-  start-number c n values eleven (nonce-reuse {key} {nonce} {header} {size} k m s l x y) q =
+  start-number c n values eleven (nonce-reuse {key} {nonce} {header} {size} k m s again) q =
       start-wipes Encrypt key nonce header _ size q
 
   -- The numbers 1, 2, 3 and 11 are those of a refused start.

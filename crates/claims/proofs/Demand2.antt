@@ -31,9 +31,9 @@ use Rattle.tc_aead_cipher.proofs.VariantLaws.{sizes, small, keep-bound}
 use Rattle.tc_aead_cipher.specs.Call.{Call}
 use Rattle.tc_sparkle_aead.specs.Sheet.{step, runFrom, run}
 use Rattle.tc_aead_cipher.specs.Outcome.{Outcome, startOutcome}
-use Rattle.claims.specs.Reader.{readerHeld, read, reader}
-use Rattle.claims.specs.Messages.{released, Writes, Each, endOutcome, answerOf, messageOf, EndsWith}
-use Rattle.claims.specs.Messages.{finishedBytes, OpenEndExact, Before, stepsBefore, stepsAfterInit, Keeps}
+use Rattle.claims.specs.Reader.{readerHeld, read, reader, Load, loadedKey, loadedNonce, lastKey, lastNonce}
+use Rattle.claims.specs.Messages.{released, Writes, Each, endOutcome, answerOf, messageOf, EndsWith, finishedBytes}
+use Rattle.claims.specs.Messages.{OpenEndExact, Before, stepsBefore, stepsAfterInit, Keeps}
 use Rattle.claims.proofs.Points.{blockPoint}
 use Rattle.claims.proofs.Kept.{Standing, Sealed, openedMac, headCount, dataCount, headPoint, dataPoint, pointIn}
 use Rattle.claims.proofs.Kept.{initialCount, phase-agrees}
@@ -60,7 +60,7 @@ module _ (v : SparkleVariant) (calls : List Call) where
   pub open-end-bytes : (out : List ℕ) (n : ℕ) → opening (reader v calls .phase) ≡ true
       → endCheck (paramsOf v) (reader v calls .phase) (readerHeld (paramsOf v) (reader v calls)) (length out) ≡ Ok n
       → OpenEnd v (reader v calls) out n
-      (verified (paramsOf v) (reader v calls .key) (reader v calls .nonce) (reader v calls .header) (reader v calls .body))
+      (verified (paramsOf v) (loadedKey (reader v calls)) (loadedNonce (reader v calls)) (reader v calls .header) (reader v calls .body))
       (step (run v calls) (Call.Final out))
   open-end-bytes out n o passed = open-end v (run v calls) (reader v calls) (follows-run v calls) out n passed o
 
@@ -82,7 +82,7 @@ pub open-end-exact : (v : SparkleVariant) (calls : List Call) (out : List ℕ) (
 open-end-exact v calls out n o passed =
     let r = reader v calls in
     let w = open-end-bytes v calls out n o passed .outcome-is in
-    let g = verified (paramsOf v) (r .key) (r .nonce) (r .header) (r .body) in
+    let g = verified (paramsOf v) (loadedKey r) (loadedNonce r) (r .header) (r .body) in
     record { accepted = exact-ok g n _ w; refused = exact-no g n _ w }
 
 -- ---- The tag
@@ -93,7 +93,7 @@ pub end-tag-and-steps : (v : SparkleVariant) (calls : List Call) (out : List ℕ
     → endCheck (paramsOf v) (reader v calls .phase) (readerHeld (paramsOf v) (reader v calls)) (length out) ≡ Ok n
     → EndsWith v (reader v calls)
     (cond (opening (reader v calls .phase))
-    (verified (paramsOf v) (reader v calls .key) (reader v calls .nonce) (reader v calls .header)
+    (verified (paramsOf v) (loadedKey (reader v calls)) (loadedNonce (reader v calls)) (reader v calls .header)
     (reader v calls .body)) true)
     (step (run v calls) (Call.Final out) .engine)
 end-tag-and-steps v calls out n passed = end-ended v (run v calls) (reader v calls) (follows-run v calls) out n passed
@@ -109,7 +109,7 @@ module _ (v : SparkleVariant) (calls : List Call) (out : List ℕ) (n : ℕ)
     (accepted : step (run v calls) (Call.Final out) .outcome ≡ Outcome.ok n) where
   pub passed : (endCheck (paramsOf v) (reader v calls .phase) (readerHeld (paramsOf v) (reader v calls)) (length out) ≡ Ok n)
       × (cond (opening (reader v calls .phase))
-      (verified (paramsOf v) (reader v calls .key) (reader v calls .nonce) (reader v calls .header)
+      (verified (paramsOf v) (loadedKey (reader v calls)) (loadedNonce (reader v calls)) (reader v calls .header)
       (reader v calls .body)) true ≡ true)
   unfolding answerOf
   passed = end-passed _ _ _ n (sym (answers v calls (Call.Final out) tt) ∙ accepted)
@@ -148,18 +148,18 @@ sealed-tag : (p : Params) (key nonce initial header body : List ℕ) (mac : Mac)
 sealed-tag p key nonce initial header body mac c (Sealed.stopped e k) h = absurd (no-tag mac e h)
 sealed-tag p key nonce initial header body mac c (Sealed.finished e k) h = e
 
-mac-in : (p : Params) (phase : Phase) (loaded : Bool) (key nonce initial header body : List ℕ) (mac : Mac) (c : ℕ)
-    → Standing p phase loaded key nonce initial header body mac c → mac .readable ≡ true
-    → mac ≡ readable (tag p key nonce header (messageOf p (kept loaded key nonce initial phase header body)))
+mac-in : (p : Params) (phase : Phase) (loads : List Load) (initial header body : List ℕ) (mac : Mac) (c : ℕ)
+    → Standing p phase loads initial header body mac c → mac .readable ≡ true
+    → mac ≡ readable (tag p (lastKey loads) (lastNonce loads) header (messageOf p (kept loads initial phase header body)))
 unfolding messageOf openedMac
-mac-in p Uninitialized loaded key nonce initial header body mac c st h = absurd (no-tag mac (st .0) h)
-mac-in p (Init d) loaded key nonce initial header body mac c st h = absurd (no-tag mac (st .1) h)
-mac-in p (Aad d) loaded key nonce initial header body mac c st h = absurd (no-tag mac (st .1) h)
-mac-in p (Data d) loaded key nonce initial header body mac c st h = absurd (no-tag mac (st .1) h)
-mac-in p (Final Encrypt) loaded key nonce initial header body mac c st h =
-    sealed-tag p key nonce initial header body mac c (st .1) h
-mac-in p (Final Decrypt) loaded key nonce initial header body mac c st h =
-    opened-tag (verified p key nonce header body) _ mac (st .1) h
+mac-in p Uninitialized loads initial header body mac c st h = absurd (no-tag mac (st .0) h)
+mac-in p (Init d) loads initial header body mac c st h = absurd (no-tag mac (st .1) h)
+mac-in p (Aad d) loads initial header body mac c st h = absurd (no-tag mac (st .1) h)
+mac-in p (Data d) loads initial header body mac c st h = absurd (no-tag mac (st .1) h)
+mac-in p (Final Encrypt) loads initial header body mac c st h =
+    sealed-tag p (lastKey loads) (lastNonce loads) initial header body mac c (st .1) h
+mac-in p (Final Decrypt) loads initial header body mac c st h =
+    opened-tag (verified p (lastKey loads) (lastNonce loads) header body) _ mac (st .1) h
 
 shown-mac : (e : SparkleEngine) → macOf e .readable ≡ true → (e .mac .readable ≡ true) × (macOf e ≡ e .mac)
 unfolding macOf noMac
@@ -172,7 +172,7 @@ shown-mac e h = by (e .mac .readable) h
 -- Whenever a tag can be read it is the specification's, of the message that the reader keeps.
 pub mac-bytes : (v : SparkleVariant) (calls : List Call) → macOf (run v calls) .readable ≡ true
     → macOf (run v calls)
-    ≡ readable (tag (paramsOf v) (reader v calls .key) (reader v calls .nonce) (reader v calls .header)
+    ≡ readable (tag (paramsOf v) (loadedKey (reader v calls)) (loadedNonce (reader v calls)) (reader v calls .header)
     (messageOf (paramsOf v) (reader v calls)))
 mac-bytes v calls h =
     let r = reader v calls in
@@ -181,7 +181,7 @@ mac-bytes v calls h =
     let s = shown-mac e h in
     let is : e .mac ≡ w .mac = ap (λ (x : SparkleEngine). x .mac) (w .same-engine) in
     s .1 ∙ is
-    ∙ mac-in (paramsOf v) (r .phase) (r .loaded) (r .key) (r .nonce) (r .initial) (r .header) (r .body) (w .mac) (w .count)
+    ∙ mac-in (paramsOf v) (r .phase) (r .loads) (r .initial) (r .header) (r .body) (w .mac) (w .count)
     (w .standing)
     (sym (ap (λ (m : Mac). m .readable) is) ∙ s .0)
 
@@ -204,7 +204,7 @@ held-at-most v calls =
     let r = reader v calls in
     let w = follows-run v calls in
     subst (λ (e : SparkleEngine). e .current .held ≤ keep (paramsOf v) (r .phase) + paramsOf v .rate) (sym (w .same-engine))
-    (held-phase (paramsOf v) (sizes v .rate-positive) (r .key) (r .nonce) (r .header) (r .body) (r .phase))
+    (held-phase (paramsOf v) (sizes v .rate-positive) (loadedKey r) (loadedNonce r) (r .header) (r .body) (r .phase))
 
 pub held-at-most-64 : (v : SparkleVariant) (calls : List Call) → run v calls .current .held ≤ 64
 held-at-most-64 v calls =
@@ -215,19 +215,19 @@ pub phase-is : (v : SparkleVariant) (calls : List Call) → run v calls .current
 phase-is v calls =
     let r = reader v calls in
     ap (λ (e : SparkleEngine). e .current .phase) (follows-run v calls .same-engine)
-    ∙ phase-agrees (paramsOf v) (r .key) (r .nonce) (r .header) (r .body) (r .phase)
+    ∙ phase-agrees (paramsOf v) (loadedKey r) (loadedNonce r) (r .header) (r .body) (r .phase)
 
 -- ---- The steps
 
-steps-in : (p : Params) (phase : Phase) (loaded : Bool) (key nonce initial header body : List ℕ) (mac : Mac) (c : ℕ)
+steps-in : (p : Params) (phase : Phase) (loads : List Load) (initial header body : List ℕ) (mac : Mac) (c : ℕ)
     → Before phase
-    → Standing p phase loaded key nonce initial header body mac c → c ≡ stepsBefore p phase header body % 2 ^ 64
+    → Standing p phase loads initial header body mac c → c ≡ stepsBefore p phase header body % 2 ^ 64
 unfolding stepsBefore headCount dataCount
-steps-in p Uninitialized loaded key nonce initial header body mac c b st = st .1
-steps-in p (Init d) loaded key nonce initial header body mac c b st = st .2
-steps-in p (Aad d) loaded key nonce initial header body mac c b st = st .2
-steps-in p (Data d) loaded key nonce initial header body mac c b st = st .2
-steps-in p (Final d) loaded key nonce initial header body mac c b st = absurd b
+steps-in p Uninitialized loads initial header body mac c b st = st .1
+steps-in p (Init d) loads initial header body mac c b st = st .2
+steps-in p (Aad d) loads initial header body mac c b st = st .2
+steps-in p (Data d) loads initial header body mac c b st = st .2
+steps-in p (Final d) loads initial header body mac c b st = absurd b
 
 -- Outside Final the steps are those of what has run; so 0 in Uninitialized, after a refused start and for a new engine.
 pub steps-before-end : (v : SparkleVariant) (calls : List Call) → Before (reader v calls .phase)
@@ -238,7 +238,7 @@ steps-before-end v calls b =
     let r = reader v calls in
     let w = follows-run v calls in
     ap (λ (e : SparkleEngine). e .steps .current) (w .same-engine)
-    ∙ steps-in (paramsOf v) (r .phase) (r .loaded) (r .key) (r .nonce) (r .initial) (r .header) (r .body) (w .mac)
+    ∙ steps-in (paramsOf v) (r .phase) (r .loads) (r .initial) (r .header) (r .body) (w .mac)
     (w .count) b (w .standing)
 
 initial-steps : (p : Params) (phase : Phase) (initial : List ℕ) → initialCount p phase initial

@@ -28,7 +28,7 @@ use Rattle.tc_aead_cipher.specs.Call.{Call}
 use Rattle.claims.specs.Shape.{Shape, shape, Alike}
 use Rattle.tc_sparkle_aead.specs.Sheet.{step, Line, line, lines, sheet}
 use Rattle.claims.specs.Reader.{Verdict, verdictOf, Reader, newReader, repeated, readerHeld, readStart, readHeader}
-use Rattle.claims.specs.Reader.{readMessage, readEnd, endIn, read, notes, verdicts}
+use Rattle.claims.specs.Reader.{loadedKey, loadedNonce, readMessage, readEnd, endIn, read, notes, verdicts}
 use Rattle.claims.specs.Reader.Verdict.{None}
 use Rattle.claims.proofs.PublicState.{publicOf, asked, startNote, endNote, next-is, judged-is, line-is}
 
@@ -96,7 +96,7 @@ pub record Linked (v : SparkleVariant) (e : SparkleEngine) (r : Reader) : Type 0
   pub tag : (available n : ℕ) → endCheck (paramsOf v) (r .phase) (readerHeld (paramsOf v) r) available ≡ Ok n
       → opening (r .phase) ≡ true
       → same (receivedTag (beginData e)) (openTag (beginData e))
-      ≡ verified (paramsOf v) (r .key) (r .nonce) (r .header) (r .body)
+      ≡ verified (paramsOf v) (loadedKey r) (loadedNonce r) (r .header) (r .body)
 
 -- a start notes by its check
 pub readStart-note : (k : AeadInitResult) (r : Reader) (d : Direction) (key nonce header : List ℕ)
@@ -114,7 +114,7 @@ endCheck-held p phase a b available h =
 
 end-note : (p : Params) (r : Reader) (phase : Phase) (n available : ℕ) (right : Bool)
     → endCheck p phase (readerHeld p r) available ≡ Ok n
-    → (opening phase ≡ true → right ≡ verified p (r .key) (r .nonce) (r .header) (r .body))
+    → (opening phase ≡ true → right ≡ verified p (loadedKey r) (loadedNonce r) (r .header) (r .body))
     → cond (opening phase) (verdictOf right) None ≡ endIn phase p r .verdict
 unfolding endCheck
 end-note p r Uninitialized n available right c h = refl
@@ -128,7 +128,7 @@ end-note p r (Final d) n available right c h = absurd (let z : _≡_ {A = ℕ} 0
 
 readEnd-note : (p : Params) (r : Reader) (k : AeadResult) (available : ℕ) (right : Bool)
     → endCheck p (r .phase) (readerHeld p r) available ≡ k
-    → ((n : ℕ) → k ≡ Ok n → opening (r .phase) ≡ true → right ≡ verified p (r .key) (r .nonce) (r .header) (r .body))
+    → ((n : ℕ) → k ≡ Ok n → opening (r .phase) ≡ true → right ≡ verified p (loadedKey r) (loadedNonce r) (r .header) (r .body))
     → endNote k (opening (r .phase)) right ≡ readEnd k p r .verdict
 readEnd-note p r (Err x) available right c h = refl
 readEnd-note p r (Ok n) available right c h = end-note p r (r .phase) n available right c (h n refl)
@@ -144,7 +144,7 @@ readMessage-note (Ok n) r input = refl
 end-asked : (v w : SparkleVariant) (r : Reader) (phase : Phase) (k available : ℕ) (right : Bool) → w ≡ v → phase ≡ r .phase
     → heldData (paramsOf v) (r .phase) k ≡ heldData (paramsOf v) (r .phase) (readerHeld (paramsOf v) r)
     → ((n : ℕ) → endCheck (paramsOf v) (r .phase) (readerHeld (paramsOf v) r) available ≡ Ok n → opening (r .phase) ≡ true
-    → right ≡ verified (paramsOf v) (r .key) (r .nonce) (r .header) (r .body))
+    → right ≡ verified (paramsOf v) (loadedKey r) (loadedNonce r) (r .header) (r .body))
     → endNote (endCheck (paramsOf w) phase k available) (opening phase) right
     ≡ readEnd (endCheck (paramsOf v) (r .phase) (readerHeld (paramsOf v) r) available) (paramsOf v) r .verdict
 end-asked v w r phase k available right variant q h tag =

@@ -29,7 +29,7 @@ use Rattle.tc_sparkle_aead.specs.Calls.{reset as resetEngine}
 use Rattle.tc_aead_cipher.specs.Call.{Call}
 use Rattle.tc_sparkle_aead.specs.Sheet.{step, Line, line, sheet}
 use Rattle.claims.specs.Reader.{Reader, newReader, readerHeld, repeated, readStart, aadPhase, readHeader, dataPhase}
-use Rattle.claims.specs.Reader.{readMessage, endIn, readEnd, resetIn, read}
+use Rattle.claims.specs.Reader.{Load, lastKey, lastNonce, readMessage, endIn, readEnd, resetIn, read}
 use Rattle.claims.specs.Machine.{engine, linesOf, sheetOf, startSteps, messageLength, endSteps, finalSteps, stepsIn}
 use Rattle.claims.specs.Machine.{counts}
 use Rattle.claims.proofs.Kept.{Follows, Standing, Sealed, stopped, finished, headCount, dataCount, initialCount}
@@ -47,29 +47,29 @@ unfolding noMac
 no-tag = refl
 
 -- after an end: a sealing's tag can be read, so it was not a reset that led to Final
-ended-count : (p : Params) (d : Direction) (loaded : Bool) (key nonce initial header body : List ℕ) (mac : Mac) (n : ℕ)
-    → Standing p (Final d) loaded key nonce initial header body mac n → (d ≡ Encrypt → mac .readable ≡ true)
+ended-count : (p : Params) (d : Direction) (loads : List Load) (initial header body : List ℕ) (mac : Mac) (n : ℕ)
+    → Standing p (Final d) loads initial header body mac n → (d ≡ Encrypt → mac .readable ≡ true)
     → n ≡ steps p (length header) (messageLength d p (length body)) % 2 ^ 64
-ended-count p Decrypt loaded key nonce initial header body mac n st h = st .2
-ended-count p Encrypt loaded key nonce initial header body mac n st h = by (st .1)
+ended-count p Decrypt loads initial header body mac n st h = st .2
+ended-count p Encrypt loads initial header body mac n st h = by (st .1)
   where
-    by : Sealed p key nonce initial header body mac n → n ≡ steps p (length header) (length body) % 2 ^ 64
+    by : Sealed p (lastKey loads) (lastNonce loads) initial header body mac n → n ≡ steps p (length header) (length body) % 2 ^ 64
     by (finished m c) = c
     by (stopped m c) =
         absurd (let a = h refl in let b = ap (λ (x : Mac). x .readable) m ∙ no-tag in let z : _≡_ {A = ℕ} 0 1 = cc in omega arith)
 
-standing-count : (p : Params) (phase old : Phase) (loaded : Bool) (key nonce initial header body : List ℕ) (mac : Mac)
-    (n before : ℕ) (c : Call) → Standing p phase loaded key nonce initial header body mac n
+standing-count : (p : Params) (phase old : Phase) (loads : List Load) (initial header body : List ℕ) (mac : Mac)
+    (n before : ℕ) (c : Call) → Standing p phase loads initial header body mac n
     → ((d : Direction) → phase ≡ Final d
-    → n ≡ finalSteps c old p before d (record { phase = phase; loaded = loaded; key = key; nonce = nonce; initial = initial; header = header; body = body }))
-    → n ≡ stepsIn phase old p before c (record { phase = phase; loaded = loaded; key = key; nonce = nonce; initial = initial; header = header; body = body })
+    → n ≡ finalSteps c old p before d (record { phase = phase; loads = loads; initial = initial; header = header; body = body }))
+    → n ≡ stepsIn phase old p before c (record { phase = phase; loads = loads; initial = initial; header = header; body = body })
 unfolding headCount dataCount
-standing-count p Uninitialized old loaded key nonce initial header body mac n before c st h = st .1
-standing-count p (Init d) old loaded key nonce initial header body mac n before c st h =
+standing-count p Uninitialized old loads initial header body mac n before c st h = st .1
+standing-count p (Init d) old loads initial header body mac n before c st h =
     st .2 ∙ ap (λ (l : List ℕ). startSteps p (length l)) (st .3)
-standing-count p (Aad d) old loaded key nonce initial header body mac n before c st h = st .2
-standing-count p (Data d) old loaded key nonce initial header body mac n before c st h = st .2
-standing-count p (Final d) old loaded key nonce initial header body mac n before c st h = h d refl
+standing-count p (Aad d) old loads initial header body mac n before c st h = st .2
+standing-count p (Data d) old loads initial header body mac n before c st h = st .2
+standing-count p (Final d) old loads initial header body mac n before c st h = h d refl
 
 -- ---- Which calls lead to Final
 
@@ -214,12 +214,12 @@ module _ (v : SparkleVariant) (e : SparkleEngine) (r : Reader) (w : Follows v e 
   end-taken out d k passed o q =
       let f = follows-step v e r w (Call.Final out) in
       let x = read v r (Call.Final out) .reader in
-      let st : Standing (paramsOf v) (Final d) (x .loaded) (x .key) (x .nonce) (x .initial) (x .header) (x .body) (f .mac) (f .count) =
-      subst (λ (phase : Phase). Standing (paramsOf v) phase (x .loaded) (x .key) (x .nonce) (x .initial) (x .header) (x .body) (f .mac) (f .count))
+      let st : Standing (paramsOf v) (Final d) (x .loads) (x .initial) (x .header) (x .body) (f .mac) (f .count) =
+      subst (λ (phase : Phase). Standing (paramsOf v) phase (x .loads) (x .initial) (x .header) (x .body) (f .mac) (f .count))
       q (f .standing)
       in
       ap (λ (y : SparkleEngine). y .steps .current) (f .same-engine)
-      ∙ ended-count (paramsOf v) d (x .loaded) (x .key) (x .nonce) (x .initial) (x .header) (x .body) (f .mac) (f .count) st
+      ∙ ended-count (paramsOf v) d (x .loads) (x .initial) (x .header) (x .body) (f .mac) (f .count) st
       (λ h. sym (ap (λ (y : SparkleEngine). y .mac .readable) (f .same-engine)) ∙ sealed-readable out k passed (o ∙ ap opens h))
 
   end-in-final : (out : List ℕ) (d : Direction) (k : AeadResult)
@@ -271,7 +271,7 @@ module _ (v : SparkleVariant) (e : SparkleEngine) (r : Reader) (w : Follows v e 
       let f = follows-step v e r w c in
       let q = read v r c .reader in
       let n : step e c .engine .steps .current ≡ f .count = ap (λ (x : SparkleEngine). x .steps .current) (f .same-engine) in
-      n ∙ standing-count (paramsOf v) (q .phase) (r .phase) (q .loaded) (q .key) (q .nonce) (q .initial) (q .header) (q .body)
+      n ∙ standing-count (paramsOf v) (q .phase) (r .phase) (q .loads) (q .initial) (q .header) (q .body)
       (f .mac) (f .count) (stepsNow e) c (f .standing) (λ d h. sym n ∙ steps-in-final c d h)
 
 engine-counts : (v : SparkleVariant) (calls : List Call) (e : SparkleEngine) (r : Reader) → Follows v e r

@@ -1,13 +1,13 @@
 -- The invariant `Follows` gives what `Linked` states; with it demand 3 and the answers of demand 2 hold of the engine.
 use mathlib.Core.Path.{_≡_, refl, sym, ap, subst, _∙_}
 use mathlib.Core.Logic.{_↔_}
-use mathlib.Core.Bool.{Bool, true}
+use mathlib.Core.Bool.{true}
 use mathlib.Core.List.{List, _∷_}
-use Prim.Native.Nat.{ℕ, _-_, _*_, _≤_}
+use Prim.Native.Nat.{ℕ, _-_, _≤_}
 use native.Mathlib.Omega.{arith}
 use lib.ListN.{length, take}
 use Rattle.schwaemm.specs.Bytes.{same}
-use Rattle.schwaemm.specs.Blocks.{ready, held}
+use Rattle.schwaemm.specs.Blocks.{held}
 use Rattle.schwaemm.specs.Schwaemm.{Params, verified}
 use Rattle.tc_aead_cipher.specs.declared.variant.SparkleVariant.{SparkleVariant}
 use Rattle.tc_aead_cipher.specs.declared.phase.Direction.the-variants.{Encrypt, Decrypt}
@@ -25,15 +25,15 @@ use Rattle.tc_aead_cipher.specs.Call.{Call}
 use Rattle.claims.specs.Shape.{Alike}
 use Rattle.tc_sparkle_aead.specs.Sheet.{step, sheet, run}
 use Rattle.tc_aead_cipher.specs.Outcome.Outcome.{no}
-use Rattle.claims.specs.Reader.{Reader, readerHeld, read, reader, verdicts}
+use Rattle.claims.specs.Reader.{Reader, readerHeld, read, reader, verdicts, Load, loadedKey, loadedNonce, lastKey}
+use Rattle.claims.specs.Reader.{lastNonce}
 use Rattle.claims.specs.Messages.{answerOf}
 use Rattle.claims.specs.Refused.{Active, Failed}
 use Rattle.claims.specs.Refused.Active.{in-data}
 use Rattle.claims.specs.Machine.{engine, after, Demand3}
-use Rattle.claims.proofs.Kept.{Fits, Follows, Standing, engineOf, pointIn, follows-new, headPoint, dataPoint}
-use Rattle.claims.proofs.Kept.{repeats-agree, held-agrees, phase-agrees, end-enough}
-use Rattle.claims.proofs.Follows.{kept, follows-step, follows-run, begin-data, active-loaded}
-use Rattle.claims.proofs.Follows.{opening-verified}
+use Rattle.claims.proofs.Kept.{Follows, Standing, engineOf, pointIn, follows-new, headPoint, dataPoint, Remembers}
+use Rattle.claims.proofs.Kept.{pointHeld, repeats-agree, held-agrees, phase-agrees, end-enough}
+use Rattle.claims.proofs.Follows.{kept, follows-step, follows-run, begin-data, active-loaded, opening-verified}
 use Rattle.claims.proofs.Points.{blockPoint}
 use Rattle.claims.proofs.PublicState.{length-inArray}
 use Rattle.claims.proofs.Demand1.{six-leaves}
@@ -43,30 +43,36 @@ use Rattle.claims.proofs.Meets.{engine-answers, engine-meets-3}
 -- the held bytes count in Data, where point and reader agree
 held-linked : (p : Params) (key nonce header body : List ℕ) (phase : Phase)
     → heldData p phase (pointIn p phase key nonce header body .held)
-    ≡ heldData p phase (length body - ready (p .rate) (keep p phase) (length body) * p .rate)
+    ≡ heldData p phase (pointHeld p body phase)
 held-linked p key nonce header body Uninitialized = refl
 held-linked p key nonce header body (Init d) = refl
 held-linked p key nonce header body (Aad d) = refl
 held-linked p key nonce header body (Data d) = ap (heldData p (Data d)) (held-agrees p key nonce header body d)
 held-linked p key nonce header body (Final d) = refl
 
-module _ (v : SparkleVariant) (loaded : Bool) (key nonce initial header body : List ℕ) (mac : Mac) (n : ℕ)
-    (f : loaded ≡ true → Fits (paramsOf v) key nonce) where
+module _ (v : SparkleVariant) (loads : List Load) (initial header body : List ℕ) (mac : Mac) (n : ℕ)
+    (f : Remembers (paramsOf v) loads) where
+  abbrev key : List ℕ
+  key = lastKey loads
+
+  abbrev nonce : List ℕ
+  nonce = lastNonce loads
+
   -- an opening in a phase that takes an end, with a tag's bytes
-  tag-takes : {phase : Phase} → Active Decrypt phase → Standing (paramsOf v) phase loaded key nonce initial header body mac n
+  tag-takes : {phase : Phase} → Active Decrypt phase → Standing (paramsOf v) phase loads initial header body mac n
       → paramsOf v .key ≤ length body
-      → same (receivedTag (beginData (engineOf v (kept loaded key nonce initial phase header body) mac n)))
-      (openTag (beginData (engineOf v (kept loaded key nonce initial phase header body) mac n)))
+      → same (receivedTag (beginData (engineOf v (kept loads initial phase header body) mac n)))
+      (openTag (beginData (engineOf v (kept loads initial phase header body) mac n)))
       ≡ verified (paramsOf v) key nonce header body
   tag-takes {phase} t st enough =
-      ap (λ (e : SparkleEngine). same (receivedTag e) (openTag e)) (begin-data v loaded key nonce initial f t header body mac n st)
-      ∙ opening-verified v loaded key nonce initial f (active-loaded v loaded key nonce initial f t header body mac n st) header body enough
+      ap (λ (e : SparkleEngine). same (receivedTag e) (openTag e)) (begin-data v loads initial f t header body mac n st)
+      ∙ opening-verified v loads initial f (active-loaded v loads initial f t header body mac n st) header body enough
 
-  tag-linked : (phase : Phase) → Standing (paramsOf v) phase loaded key nonce initial header body mac n → (available k : ℕ)
-      → endCheck (paramsOf v) phase (readerHeld (paramsOf v) (kept loaded key nonce initial phase header body)) available ≡ Ok k
+  tag-linked : (phase : Phase) → Standing (paramsOf v) phase loads initial header body mac n → (available k : ℕ)
+      → endCheck (paramsOf v) phase (readerHeld (paramsOf v) (kept loads initial phase header body)) available ≡ Ok k
       → opening phase ≡ true
-      → same (receivedTag (beginData (engineOf v (kept loaded key nonce initial phase header body) mac n)))
-      (openTag (beginData (engineOf v (kept loaded key nonce initial phase header body) mac n)))
+      → same (receivedTag (beginData (engineOf v (kept loads initial phase header body) mac n)))
+      (openTag (beginData (engineOf v (kept loads initial phase header body) mac n)))
       ≡ verified (paramsOf v) key nonce header body
   unfolding endCheck
   tag-linked Uninitialized st available k passed opens = absurd (let z : _≡_ {A = ℕ} 0 1 = cc in omega arith)
@@ -84,20 +90,20 @@ module _ (v : SparkleVariant) (loaded : Bool) (key nonce initial header body : L
       absurd (omega arith)
   tag-linked (Data Decrypt) st available k passed opens =
       let h = end-enough (paramsOf v) (Data Decrypt)
-      (readerHeld (paramsOf v) (kept loaded key nonce initial (Data Decrypt) header body)) available k refl passed in
+      (readerHeld (paramsOf v) (kept loads initial (Data Decrypt) header body)) available k refl passed in
       tag-takes in-data st (omega arith)
 
 module _ (v : SparkleVariant) (r : Reader) (mac : Mac) (n : ℕ)
-    (f : r .loaded ≡ true → Fits (paramsOf v) (r .key) (r .nonce))
-    (st : Standing (paramsOf v) (r .phase) (r .loaded) (r .key) (r .nonce) (r .initial) (r .header) (r .body) mac n) where
+    (f : Remembers (paramsOf v) (r .loads))
+    (st : Standing (paramsOf v) (r .phase) (r .loads) (r .initial) (r .header) (r .body) mac n) where
   engine-linked : Linked v (engineOf v r mac n) r
   engine-linked =
       record {
         variant = refl;
-        phase = phase-agrees (paramsOf v) (r .key) (r .nonce) (r .header) (r .body) (r .phase);
-        held = held-linked (paramsOf v) (r .key) (r .nonce) (r .header) (r .body) (r .phase);
-        pair = λ key nonce. repeats-agree (paramsOf v) (small v) (r .loaded) (r .key) (r .nonce) f key nonce;
-        tag = tag-linked v (r .loaded) (r .key) (r .nonce) (r .initial) (r .header) (r .body) mac n f (r .phase) st;
+        phase = phase-agrees (paramsOf v) (loadedKey r) (loadedNonce r) (r .header) (r .body) (r .phase);
+        held = held-linked (paramsOf v) (loadedKey r) (loadedNonce r) (r .header) (r .body) (r .phase);
+        pair = λ key nonce. repeats-agree (paramsOf v) (small v) (r .loads) f key nonce;
+        tag = tag-linked v (r .loads) (r .initial) (r .header) (r .body) mac n f (r .phase) st;
       }
 
 pub linked : (v : SparkleVariant) (e : SparkleEngine) (r : Reader) → Follows v e r → Linked v e r
@@ -139,7 +145,7 @@ pub run-array : (v : SparkleVariant) (calls : List Call) → length (run v calls
 run-array v calls =
     let r = reader v calls in
     ap (λ (e : SparkleEngine). length (e .current .buffer)) (follows-run v calls .same-engine)
-    ∙ point-array (paramsOf v) (r .phase) (r .key) (r .nonce) (r .header) (r .body)
+    ∙ point-array (paramsOf v) (r .phase) (loadedKey r) (loadedNonce r) (r .header) (r .body)
 
 pub run-six-leaves : (v : SparkleVariant) (calls : List Call) (c : Call) (values : List ℕ)
     → step (run v calls) c .outcome ≡ no (6 ∷ values) → (out : List ℕ) × (c ≡ Call.Final out) × Failed (run v calls) out

@@ -21,10 +21,10 @@ use Rattle.tc_aead_cipher.specs.Outcome.{outcome}
 use Rattle.tc_sparkle_aead.specs.Sheet.{step, line, run, runFrom}
 use Rattle.tc_aead_cipher.specs.Outcome.Outcome.{ok}
 use Rattle.claims.specs.Reader.{Reader, readerHeld, readMessage, read, readFrom, reader}
-use Rattle.claims.specs.Messages.{outputs, AllBetween, startedEngine, wrote, answerOf, handedBy, handed, UnderWay, released}
-use Rattle.claims.specs.Messages.{finishedBytes}
-use Rattle.claims.specs.Machine.{engine, linesOf, sheetOf, bytesOf, Piece, dataCalls, joined, pieceCalls, AllOk}
-use Rattle.claims.specs.Machine.{after, handedOf, Demand2}
+use Rattle.claims.specs.Messages.{outputs, AllBetween, startedEngine, wrote, answerOf, handedBy, handed, UnderWay}
+use Rattle.claims.specs.Messages.{released, finishedBytes}
+use Rattle.claims.specs.Machine.{engine, linesOf, sheetOf, bytesOf, Piece, dataCalls, joined, pieceCalls, AllOk, after}
+use Rattle.claims.specs.Machine.{handedOf, Demand2}
 use Rattle.claims.specs.Machine.AllOk.{none, more}
 use Rattle.claims.proofs.Kept.{Follows}
 use Rattle.claims.proofs.Follows.{follows-step, follows-run}
@@ -99,9 +99,9 @@ gone v (x ∷ pieces) out e r w (more n q all) =
 module _ (v : SparkleVariant) (d : Direction) (key nonce header : List ℕ) (size : ℕ) (pieces : List Piece) (out : List ℕ)
     (k : ℕ) (taken : step (run v []) (Call.Init d key nonce size header) .outcome ≡ ok k)
     (all : AllOk (linesOf engine (startedEngine v [] d key nonce size header) (dataCalls pieces out))) where
-  left : Gone v pieces out (startedEngine v [] d key nonce size header) (startedReader d key nonce header)
+  left : Gone v pieces out (startedEngine v [] d key nonce size header) (startedReader (reader v []) d key nonce header)
   left =
-      gone v pieces out (startedEngine v [] d key nonce size header) (startedReader d key nonce header)
+      gone v pieces out (startedEngine v [] d key nonce size header) (startedReader (reader v []) d key nonce header)
       (start-follows v [] d key nonce size header (messages pieces) out k taken
       (messages-between (startedEngine v [] d key nonce size header) pieces)) all
 

@@ -26,15 +26,16 @@ use Rattle.tc_sparkle_aead.specs.declared.engine.SparkleEngine.{SparkleEngine}
 use Rattle.tc_aead_cipher.specs.Variant.{paramsOf}
 use Rattle.tc_aead_cipher.specs.Checks.{aadCheck, headerCheck, dataCheck, endCheck, startCheck, updateLen, totalLen}
 use Rattle.tc_sparkle_aead.specs.Message.{noMessage, noMac, stateIn, buffered, absorbHeader, headerSteps, plainOf, lastSteps, finalPoint, readable, afterHeader, plainBy, withoutHeader}
-use Rattle.tc_sparkle_aead.specs.Engine.{noPair, remember, currentKey, noSteps, initSteps, refusedSteps, resetSteps, newEngine, updateOutputLen, outputLen}
+use Rattle.tc_sparkle_aead.specs.Engine.{currentKey, noSteps, initSteps, refusedSteps, resetSteps, newEngine, updateOutputLen, outputLen}
 use Rattle.tc_sparkle_aead.specs.Calls.{addSteps, atPoint, refused, started, initBy, init, aadBy, processAadBytes, beginData, dataIn, dataBy, processBytes, sealTag, openBlock, receivedTag, openLast, openTag, finalEngine, sealFinal, openFinalBy, openFinal, finalBy, doFinal, dataAnswer, finalAnswer}
 use Rattle.tc_sparkle_aead.specs.Calls.{reset as resetEngine}
 use Rattle.tc_aead_cipher.proofs.VariantLaws.{sizes, small}
 use Rattle.tc_aead_cipher.proofs.CheckLaws.{startCheck-lengths}
 use Rattle.tc_aead_cipher.specs.Call.{Call}
 use Rattle.tc_sparkle_aead.specs.Sheet.{step, runFrom, run}
-use Rattle.claims.specs.Reader.{Reader, newReader, inPhase, headerPhase, readerHeld, repeated, readStart, readHeader}
-use Rattle.claims.specs.Reader.{readMessage, readEnd, resetIn, read, readFrom, reader}
+use Rattle.claims.specs.Reader.{Load, load, lastKey, lastNonce, loadedKey, loadedNonce, Reader, newReader, inPhase}
+use Rattle.claims.specs.Reader.{headerPhase, readerHeld, repeated, readStart, readHeader, readMessage, readEnd, resetIn}
+use Rattle.claims.specs.Reader.{read, readFrom, reader}
 use Rattle.claims.specs.Refused.{Active}
 use Rattle.claims.specs.Refused.Active.{in-init, in-aad, in-data}
 use Rattle.claims.proofs.Points.{blockPoint}
@@ -44,45 +45,51 @@ use Rattle.claims.proofs.Kept.{headPoint, dataPoint, pointIn, initialIn
 use Rattle.claims.proofs.Kept.{openedMac, Standing, Fits, Follows, follows-new, holds-init, holds-aad, head-point}
 use Rattle.claims.proofs.Kept.{head-count, started-point, started-count, begin-point-init, begin-point-aad}
 use Rattle.claims.proofs.Kept.{begin-count-init, begin-count-aad, holds-data, state-data, data-point, data-count}
-use Rattle.claims.proofs.Kept.{key-back, repeats-agree, pointHeld, data-agrees, update-agrees, total-agrees, end-agrees}
-use Rattle.claims.proofs.Kept.{phase-agrees, end-enough, Sealed}
+use Rattle.claims.proofs.Kept.{isLoaded, Remembers, load-remembers, pair-load, key-back, repeats-agree, pointHeld}
+use Rattle.claims.proofs.Kept.{data-agrees, update-agrees, total-agrees, end-agrees, phase-agrees, end-enough, Sealed}
 
 -- ---- The calls
 
 -- a reader by its parts, and the engine in its data
-abbrev pub kept : Bool → (key nonce initial : List ℕ) → Phase → (header body : List ℕ) → Reader
-kept loaded key nonce initial phase header body =
-    record { phase = phase; loaded = loaded; key = key; nonce = nonce; initial = initial; header = header; body = body }
+abbrev pub kept : List Load → (initial : List ℕ) → Phase → (header body : List ℕ) → Reader
+kept loads initial phase header body =
+    record { phase = phase; loads = loads; initial = initial; header = header; body = body }
 
-abbrev pub inData : SparkleVariant → Bool → (key nonce initial : List ℕ) → Direction → (header body : List ℕ) → SparkleEngine
-inData v loaded key nonce initial d header body =
-    engineOf v (kept loaded key nonce initial (Data d) header body) noMac (dataCount (paramsOf v) d header body)
+abbrev pub inData : SparkleVariant → List Load → (initial : List ℕ) → Direction → (header body : List ℕ) → SparkleEngine
+inData v loads initial d header body =
+    engineOf v (kept loads initial (Data d) header body) noMac (dataCount (paramsOf v) d header body)
 
 module _ (v : SparkleVariant) where
   abbrev p : Params
   p = paramsOf v
 
-  module _ (loaded : Bool) (key nonce initial : List ℕ) where
+  module _ (loads : List Load) (initial : List ℕ) where
+    abbrev key : List ℕ
+    key = lastKey loads
+
+    abbrev nonce : List ℕ
+    nonce = lastNonce loads
+
     -- the reader by its other parts, and the engine in its data
     abbrev keeps : Phase → (header body : List ℕ) → Reader
-    keeps phase header body = kept loaded key nonce initial phase header body
+    keeps phase header body = kept loads initial phase header body
 
     abbrev dataEngine : Direction → (header body : List ℕ) → SparkleEngine
-    dataEngine d header body = inData v loaded key nonce initial d header body
+    dataEngine d header body = inData v loads initial d header body
 
-    module _ (f : loaded ≡ true → Fits p key nonce) where
+    module _ (f : Remembers p loads) where
       -- a header begun anew
-      restart : (l : loaded ≡ true) (d : Direction) (first : List ℕ)
+      restart : (l : isLoaded loads ≡ true) (d : Direction) (first : List ℕ)
           → Follows v
           (record {
             variant = v;
             current = headPoint p (headerPhase d first) key nonce first;
             initial = headPoint p (headerPhase d first) key nonce first;
-            pair = pairIn loaded key nonce;
+            pair = pairIn loads;
             mac = noMac;
             steps = record { current = headCount p (length first); initial = headCount p (length first) };
           })
-          (record { phase = headerPhase d first; loaded = loaded; key = key; nonce = nonce; initial = first; header = first; body = [] })
+          (kept loads first (headerPhase d first) first [])
       restart l d [] =
           record { mac = noMac; count = headCount p 0; same-engine = refl; fits = f; standing = (l, refl, refl, refl, refl) }
       restart l d (x ∷ first) =
@@ -96,7 +103,7 @@ module _ (v : SparkleVariant) where
 
       -- reset
       reset-follows : (phase : Phase) (header body : List ℕ) (mac : Mac) (n : ℕ)
-          → Standing p phase loaded key nonce initial header body mac n
+          → Standing p phase loads initial header body mac n
           → Follows v (resetEngine (engineOf v (keeps phase header body) mac n)) (resetIn phase (keeps phase header body))
       unfolding resetEngine resetSteps headPoint dataPoint blockPoint noMessage finalPoint
       reset-follows Uninitialized header body mac n st =
@@ -120,7 +127,7 @@ module _ (v : SparkleVariant) where
               variant = v;
               current = begin-point-init p (sizes v) (small v) key nonce d i;
               initial = initialIn p (Data d) key nonce initial;
-              pair = pairIn loaded key nonce;
+              pair = pairIn loads;
               mac = noMac;
               steps = record { current = begin-count-init p (sizes v) (small v) d i; initial = headCount p (length initial) };
             }
@@ -134,7 +141,7 @@ module _ (v : SparkleVariant) where
               variant = v;
               current = begin-point-aad p (sizes v) (small v) key nonce d header some i;
               initial = initialIn p (Data d) key nonce initial;
-              pair = pairIn loaded key nonce;
+              pair = pairIn loads;
               mac = noMac;
               steps = record { current = begin-count-aad p (sizes v) (small v) d header some i; initial = headCount p (length initial) };
             }
@@ -148,14 +155,14 @@ module _ (v : SparkleVariant) where
               variant = v;
               current = data-point p (sizes v) (small v) d key nonce header body input i;
               initial = initialIn p (Data d) key nonce initial;
-              pair = pairIn loaded key nonce;
+              pair = pairIn loads;
               mac = noMac;
               steps = record { current = data-count p (sizes v) (small v) d key nonce header body input i; initial = headCount p (length initial) };
             }
 
       -- a phase that takes data, in a direction
       pub begin-data : {phase : Phase} {d : Direction} → Active d phase → (header body : List ℕ) (mac : Mac) (n : ℕ)
-          → Standing p phase loaded key nonce initial header body mac n
+          → Standing p phase loads initial header body mac n
           → beginData (engineOf v (keeps phase header body) mac n)
           ≡ engineOf v (keeps (Data d) header body) noMac (dataCount p d header body)
       unfolding beginData dataPoint blockPoint withoutHeader afterHeader
@@ -170,13 +177,13 @@ module _ (v : SparkleVariant) where
       begin-data {d = d} in-data header body mac n st = λ i. engineOf v (keeps (Data d) header body) (st .1 i) (st .2 i)
 
       pub active-loaded : {phase : Phase} {d : Direction} → Active d phase → (header body : List ℕ) (mac : Mac) (n : ℕ)
-          → Standing p phase loaded key nonce initial header body mac n → loaded ≡ true
+          → Standing p phase loads initial header body mac n → isLoaded loads ≡ true
       active-loaded in-init header body mac n st = st .0
       active-loaded in-aad header body mac n st = st .0
       active-loaded in-data header body mac n st = st .0
 
       -- a header call
-      more-header : (d : Direction) (l : loaded ≡ true) (header body input : List ℕ) (e : SparkleEngine)
+      more-header : (d : Direction) (l : isLoaded loads ≡ true) (header body input : List ℕ) (e : SparkleEngine)
           → 0 < length (header ++ input) → body ≡ []
           → e ≡ engineOf v (keeps (Aad d) (header ++ input) body) noMac (headCount p (length (header ++ input)))
           → Follows v e (keeps (Aad d) (header ++ input) body)
@@ -197,7 +204,7 @@ module _ (v : SparkleVariant) where
             variant = v;
             current = absorbHeader p d (headPoint p phase key nonce header) (x ∷ input);
             initial = initialIn p (Aad d) key nonce initial;
-            pair = pairIn loaded key nonce;
+            pair = pairIn loads;
             mac = mac;
             steps =
                 record {
@@ -211,7 +218,7 @@ module _ (v : SparkleVariant) where
             variant = v;
             current = head-point p (sizes v) (small v) key nonce phase header holds d x input i;
             initial = initialIn p (Aad d) key nonce initial;
-            pair = pairIn loaded key nonce;
+            pair = pairIn loads;
             mac = no-mac i;
             steps =
                 record {
@@ -223,7 +230,7 @@ module _ (v : SparkleVariant) where
           }
 
       header-follows : (phase : Phase) (header body : List ℕ) (mac : Mac) (n : ℕ)
-          → Standing p phase loaded key nonce initial header body mac n → (x : ℕ) (input : List ℕ)
+          → Standing p phase loads initial header body mac n → (x : ℕ) (input : List ℕ)
           → Follows v (aadBy (headerCheck phase) (engineOf v (keeps phase header body) mac n) (x ∷ input) .engine)
           (readHeader (headerCheck phase) (keeps phase header body) (x ∷ input) .reader)
       unfolding atPoint addSteps headPoint blockPoint
@@ -245,7 +252,7 @@ module _ (v : SparkleVariant) where
           record { mac = mac; count = n; same-engine = refl; fits = f; standing = st }
 
       -- a data call
-      into-data : (d : Direction) (l : loaded ≡ true) (header body input : List ℕ) (e : SparkleEngine)
+      into-data : (d : Direction) (l : isLoaded loads ≡ true) (header body input : List ℕ) (e : SparkleEngine)
           → e ≡ engineOf v (keeps (Data d) header body) noMac (dataCount p d header body)
           → Follows v (dataIn e input) (keeps (Data d) header (body ++ input))
       into-data d l header body input e is =
@@ -258,7 +265,7 @@ module _ (v : SparkleVariant) where
           }
 
       data-follows : {phase : Phase} {d : Direction} → Active d phase → (header body : List ℕ) (mac : Mac) (n : ℕ)
-          → Standing p phase loaded key nonce initial header body mac n → (input : List ℕ) (k : AeadResult)
+          → Standing p phase loads initial header body mac n → (input : List ℕ) (k : AeadResult)
           → Follows v (dataBy k (engineOf v (keeps phase header body) mac n) input .engine)
           (readMessage k (keeps phase header body) input .reader)
       data-follows t header body mac n st input (Err x) =
@@ -280,14 +287,14 @@ module _ (v : SparkleVariant) where
             variant = v;
             current = finalPoint d;
             initial = initialIn p (Data d) key nonce initial;
-            pair = pairIn loaded key nonce;
+            pair = pairIn loads;
             mac = mac;
             steps = record { current = e i; initial = headCount p (length initial) };
           }
 
-      module _ (l : loaded ≡ true) (header body : List ℕ) where
-        now-key : currentKey p (pairIn loaded key nonce) ≡ key
-        now-key = ap (λ (b : Bool). currentKey p (pairIn b key nonce)) l ∙ key-back p (small v) key nonce (f l)
+      module _ (l : isLoaded loads ≡ true) (header body : List ℕ) where
+        now-key : currentKey p (pairIn loads) ≡ key
+        now-key = key-back p (small v) loads f l
 
         -- a sealing
         pub sealing-state : stateIn p (dataPoint p Encrypt key nonce header body .words)
@@ -419,7 +426,7 @@ module _ (v : SparkleVariant) where
             }
 
       seal-follows : {phase : Phase} → Active Encrypt phase → (header body : List ℕ) (mac : Mac) (n : ℕ)
-          → Standing p phase loaded key nonce initial header body mac n → (k : AeadResult)
+          → Standing p phase loads initial header body mac n → (k : AeadResult)
           → Follows v (finalBy k (engineOf v (keeps phase header body) mac n) .engine)
           (readEnd k p (keeps phase header body) .reader)
       unfolding headPoint dataPoint blockPoint
@@ -433,7 +440,7 @@ module _ (v : SparkleVariant) where
           sealed-follows (st .0) header body k _ (begin-data {d = Encrypt} in-data header body mac n st)
 
       open-follows : {phase : Phase} → Active Decrypt phase → (header body : List ℕ) (mac : Mac) (n : ℕ)
-          → Standing p phase loaded key nonce initial header body mac n → (k : AeadResult)
+          → Standing p phase loads initial header body mac n → (k : AeadResult)
           → ((j : ℕ) → k ≡ Ok j → p .key ≤ length body)
           → Follows v (finalBy k (engineOf v (keeps phase header body) mac n) .engine)
           (readEnd k p (keeps phase header body) .reader)
@@ -449,10 +456,10 @@ module _ (v : SparkleVariant) where
 
 -- a start
 start-follows : (v : SparkleVariant) (r : Reader) (mac : Mac) (n : ℕ)
-    → (r .loaded ≡ true → Fits (paramsOf v) (r .key) (r .nonce))
+    → (Remembers (paramsOf v) (r .loads))
     → (d : Direction) (key nonce header : List ℕ) (k : AeadInitResult) → (k ≡ StartOk → Fits (paramsOf v) key nonce)
     → Follows v (initBy k (engineOf v r mac n) d key nonce header .engine) (readStart k r d key nonce header .reader)
-unfolding started refused initSteps refusedSteps noSteps remember
+unfolding started refused initSteps refusedSteps noSteps
 start-follows v r mac n f d key nonce header (StartErr x) g =
     record { mac = noMac; count = 0; same-engine = refl; fits = f; standing = (refl, refl) }
 start-follows v r mac n f d key nonce header StartOk g =
@@ -462,7 +469,7 @@ start-follows v r mac n f d key nonce header StartOk g =
       variant = v;
       current = headPoint p (headerPhase d header) key nonce header;
       initial = headPoint p (headerPhase d header) key nonce header;
-      pair = remember noPair key nonce;
+      pair = pairIn (load (r .loads) key nonce);
       mac = noMac;
       steps = record { current = headCount p (length header); initial = headCount p (length header) };
     } =
@@ -470,7 +477,7 @@ start-follows v r mac n f d key nonce header StartOk g =
       variant = v;
       current = started-point p (sizes v) (small v) key nonce d header i;
       initial = started-point p (sizes v) (small v) key nonce d header i;
-      pair = remember noPair key nonce;
+      pair = pair-load (r .loads) key nonce i;
       mac = noMac;
       steps =
           record {
@@ -480,7 +487,7 @@ start-follows v r mac n f d key nonce header StartOk g =
     }
     in
     subst (λ (x : SparkleEngine). Follows v x (readStart StartOk r d key nonce header .reader)) (sym e)
-    (restart v true key nonce header (λ _. g refl) refl d header)
+    (restart v (load (r .loads) key nonce) header (load-remembers p (r .loads) key nonce f (g refl)) refl d header)
 
 -- ---- A call
 
@@ -489,72 +496,71 @@ unfolding aadCheck
 aad-some phase n = rw (ne-eqb (suc n) 0 (λ e. omega arith))
 
 -- a data call and an end, by the phase
-message-step : (v : SparkleVariant) (phase : Phase) (loaded : Bool) (key nonce initial header body : List ℕ) (mac : Mac)
+message-step : (v : SparkleVariant) (phase : Phase) (loads : List Load) (initial header body : List ℕ) (mac : Mac)
     (n : ℕ)
-    → (loaded ≡ true → Fits (paramsOf v) key nonce) → Standing (paramsOf v) phase loaded key nonce initial header body mac n
+    → (Remembers (paramsOf v) loads) → Standing (paramsOf v) phase loads initial header body mac n
     → (input : List ℕ) (held a : ℕ)
     → Follows v
     (dataBy (dataCheck (paramsOf v) phase held (length input) a)
-    (engineOf v (kept loaded key nonce initial phase header body) mac n) input .engine)
+    (engineOf v (kept loads initial phase header body) mac n) input .engine)
     (readMessage (dataCheck (paramsOf v) phase held (length input) a)
-    (kept loaded key nonce initial phase header body) input .reader)
+    (kept loads initial phase header body) input .reader)
 unfolding dataCheck
-message-step v Uninitialized loaded key nonce initial header body mac n f st input held a =
+message-step v Uninitialized loads initial header body mac n f st input held a =
     record { mac = mac; count = n; same-engine = refl; fits = f; standing = st }
-message-step v (Init d) loaded key nonce initial header body mac n f st input held a =
-    data-follows v loaded key nonce initial f {d = d} in-init header body mac n st input
+message-step v (Init d) loads initial header body mac n f st input held a =
+    data-follows v loads initial f {d = d} in-init header body mac n st input
     (dataCheck (paramsOf v) (Init d) held (length input) a)
-message-step v (Aad d) loaded key nonce initial header body mac n f st input held a =
-    data-follows v loaded key nonce initial f {d = d} in-aad header body mac n st input
+message-step v (Aad d) loads initial header body mac n f st input held a =
+    data-follows v loads initial f {d = d} in-aad header body mac n st input
     (dataCheck (paramsOf v) (Aad d) held (length input) a)
-message-step v (Data d) loaded key nonce initial header body mac n f st input held a =
-    data-follows v loaded key nonce initial f {d = d} in-data header body mac n st input
+message-step v (Data d) loads initial header body mac n f st input held a =
+    data-follows v loads initial f {d = d} in-data header body mac n st input
     (dataCheck (paramsOf v) (Data d) held (length input) a)
-message-step v (Final d) loaded key nonce initial header body mac n f st input held a =
+message-step v (Final d) loads initial header body mac n f st input held a =
     record { mac = mac; count = n; same-engine = refl; fits = f; standing = st }
 
 pub active-enough : (p : Params) → Sizes p → {phase : Phase} → Active Decrypt phase
-    → (key nonce header body : List ℕ) (a k : ℕ)
-    → endCheck p phase (pointHeld p key nonce header body phase) a ≡ Ok k → p .key ≤ length body
-active-enough p h in-init key nonce header body a k e =
-    absurd (omega (arith, end-enough p (Init Decrypt) (pointHeld p key nonce header body (Init Decrypt)) a k refl e))
-active-enough p h in-aad key nonce header body a k e =
-    absurd (omega (arith, end-enough p (Aad Decrypt) (pointHeld p key nonce header body (Aad Decrypt)) a k refl e))
-active-enough p h in-data key nonce header body a k e =
-    omega (arith, end-enough p (Data Decrypt) (pointHeld p key nonce header body (Data Decrypt)) a k refl e)
+    → (body : List ℕ) (a k : ℕ) → endCheck p phase (pointHeld p body phase) a ≡ Ok k → p .key ≤ length body
+active-enough p h in-init body a k e =
+    absurd (omega (arith, end-enough p (Init Decrypt) (pointHeld p body (Init Decrypt)) a k refl e))
+active-enough p h in-aad body a k e =
+    absurd (omega (arith, end-enough p (Aad Decrypt) (pointHeld p body (Aad Decrypt)) a k refl e))
+active-enough p h in-data body a k e =
+    omega (arith, end-enough p (Data Decrypt) (pointHeld p body (Data Decrypt)) a k refl e)
 
-end-step : (v : SparkleVariant) (phase : Phase) (loaded : Bool) (key nonce initial header body : List ℕ) (mac : Mac) (n : ℕ)
-    → (loaded ≡ true → Fits (paramsOf v) key nonce) → Standing (paramsOf v) phase loaded key nonce initial header body mac n
+end-step : (v : SparkleVariant) (phase : Phase) (loads : List Load) (initial header body : List ℕ) (mac : Mac) (n : ℕ)
+    → (Remembers (paramsOf v) loads) → Standing (paramsOf v) phase loads initial header body mac n
     → (a : ℕ)
     → Follows v
-    (finalBy (endCheck (paramsOf v) phase (pointHeld (paramsOf v) key nonce header body phase) a)
-    (engineOf v (kept loaded key nonce initial phase header body) mac n) .engine)
-    (readEnd (endCheck (paramsOf v) phase (pointHeld (paramsOf v) key nonce header body phase) a) (paramsOf v)
-    (kept loaded key nonce initial phase header body) .reader)
-end-step v Uninitialized loaded key nonce initial header body mac n f st a =
+    (finalBy (endCheck (paramsOf v) phase (pointHeld (paramsOf v) body phase) a)
+    (engineOf v (kept loads initial phase header body) mac n) .engine)
+    (readEnd (endCheck (paramsOf v) phase (pointHeld (paramsOf v) body phase) a) (paramsOf v)
+    (kept loads initial phase header body) .reader)
+end-step v Uninitialized loads initial header body mac n f st a =
     unfold endCheck in record { mac = mac; count = n; same-engine = refl; fits = f; standing = st }
-end-step v (Init Encrypt) loaded key nonce initial header body mac n f st a =
-    seal-follows v loaded key nonce initial f in-init header body mac n st
-    (endCheck (paramsOf v) (Init Encrypt) (pointHeld (paramsOf v) key nonce header body (Init Encrypt)) a)
-end-step v (Aad Encrypt) loaded key nonce initial header body mac n f st a =
-    seal-follows v loaded key nonce initial f in-aad header body mac n st
-    (endCheck (paramsOf v) (Aad Encrypt) (pointHeld (paramsOf v) key nonce header body (Aad Encrypt)) a)
-end-step v (Data Encrypt) loaded key nonce initial header body mac n f st a =
-    seal-follows v loaded key nonce initial f in-data header body mac n st
-    (endCheck (paramsOf v) (Data Encrypt) (pointHeld (paramsOf v) key nonce header body (Data Encrypt)) a)
-end-step v (Init Decrypt) loaded key nonce initial header body mac n f st a =
-    open-follows v loaded key nonce initial f in-init header body mac n st
-    (endCheck (paramsOf v) (Init Decrypt) (pointHeld (paramsOf v) key nonce header body (Init Decrypt)) a)
-    (active-enough (paramsOf v) (sizes v) in-init key nonce header body a)
-end-step v (Aad Decrypt) loaded key nonce initial header body mac n f st a =
-    open-follows v loaded key nonce initial f in-aad header body mac n st
-    (endCheck (paramsOf v) (Aad Decrypt) (pointHeld (paramsOf v) key nonce header body (Aad Decrypt)) a)
-    (active-enough (paramsOf v) (sizes v) in-aad key nonce header body a)
-end-step v (Data Decrypt) loaded key nonce initial header body mac n f st a =
-    open-follows v loaded key nonce initial f in-data header body mac n st
-    (endCheck (paramsOf v) (Data Decrypt) (pointHeld (paramsOf v) key nonce header body (Data Decrypt)) a)
-    (active-enough (paramsOf v) (sizes v) in-data key nonce header body a)
-end-step v (Final d) loaded key nonce initial header body mac n f st a =
+end-step v (Init Encrypt) loads initial header body mac n f st a =
+    seal-follows v loads initial f in-init header body mac n st
+    (endCheck (paramsOf v) (Init Encrypt) (pointHeld (paramsOf v) body (Init Encrypt)) a)
+end-step v (Aad Encrypt) loads initial header body mac n f st a =
+    seal-follows v loads initial f in-aad header body mac n st
+    (endCheck (paramsOf v) (Aad Encrypt) (pointHeld (paramsOf v) body (Aad Encrypt)) a)
+end-step v (Data Encrypt) loads initial header body mac n f st a =
+    seal-follows v loads initial f in-data header body mac n st
+    (endCheck (paramsOf v) (Data Encrypt) (pointHeld (paramsOf v) body (Data Encrypt)) a)
+end-step v (Init Decrypt) loads initial header body mac n f st a =
+    open-follows v loads initial f in-init header body mac n st
+    (endCheck (paramsOf v) (Init Decrypt) (pointHeld (paramsOf v) body (Init Decrypt)) a)
+    (active-enough (paramsOf v) (sizes v) in-init body a)
+end-step v (Aad Decrypt) loads initial header body mac n f st a =
+    open-follows v loads initial f in-aad header body mac n st
+    (endCheck (paramsOf v) (Aad Decrypt) (pointHeld (paramsOf v) body (Aad Decrypt)) a)
+    (active-enough (paramsOf v) (sizes v) in-aad body a)
+end-step v (Data Decrypt) loads initial header body mac n f st a =
+    open-follows v loads initial f in-data header body mac n st
+    (endCheck (paramsOf v) (Data Decrypt) (pointHeld (paramsOf v) body (Data Decrypt)) a)
+    (active-enough (paramsOf v) (sizes v) in-data body a)
+end-step v (Final d) loads initial header body mac n f st a =
     unfold endCheck in record { mac = mac; count = n; same-engine = refl; fits = f; standing = st }
 
 -- the engine's checks are the reader's
@@ -563,47 +569,47 @@ module _ (v : SparkleVariant) (r : Reader) (mac : Mac) (n : ℕ) where
       ≡ dataCheck (paramsOf v) (r .phase) (readerHeld (paramsOf v) r) k a
   data-answer k a =
       let p = paramsOf v in
-      let at = pointIn p (r .phase) (r .key) (r .nonce) (r .header) (r .body) in
+      let at = pointIn p (r .phase) (loadedKey r) (loadedNonce r) (r .header) (r .body) in
       ap (λ (phase : Phase). dataCheck p phase (at .held) k a)
-      (phase-agrees p (r .key) (r .nonce) (r .header) (r .body) (r .phase))
-      ∙ data-agrees p (r .key) (r .nonce) (r .header) (r .body) (r .phase) k a
+      (phase-agrees p (loadedKey r) (loadedNonce r) (r .header) (r .body) (r .phase))
+      ∙ data-agrees p (loadedKey r) (loadedNonce r) (r .header) (r .body) (r .phase) k a
 
   pub final-answer : (a : ℕ) → finalAnswer (engineOf v r mac n) a
       ≡ endCheck (paramsOf v) (r .phase) (readerHeld (paramsOf v) r) a
   final-answer a =
       let p = paramsOf v in
-      let at = pointIn p (r .phase) (r .key) (r .nonce) (r .header) (r .body) in
-      ap (λ (phase : Phase). endCheck p phase (at .held) a) (phase-agrees p (r .key) (r .nonce) (r .header) (r .body)
+      let at = pointIn p (r .phase) (loadedKey r) (loadedNonce r) (r .header) (r .body) in
+      ap (λ (phase : Phase). endCheck p phase (at .held) a) (phase-agrees p (loadedKey r) (loadedNonce r) (r .header) (r .body)
       (r .phase))
-      ∙ end-agrees p (r .key) (r .nonce) (r .header) (r .body) (r .phase) a
+      ∙ end-agrees p (loadedKey r) (loadedNonce r) (r .header) (r .body) (r .phase) a
 
   pub update-answer : (k : ℕ) → updateOutputLen (engineOf v r mac n) k
       ≡ updateLen (paramsOf v) (r .phase) (readerHeld (paramsOf v) r) k
   unfolding updateOutputLen
   update-answer k =
       let p = paramsOf v in
-      let at = pointIn p (r .phase) (r .key) (r .nonce) (r .header) (r .body) in
-      ap (λ (phase : Phase). updateLen p phase (at .held) k) (phase-agrees p (r .key) (r .nonce) (r .header) (r .body)
+      let at = pointIn p (r .phase) (loadedKey r) (loadedNonce r) (r .header) (r .body) in
+      ap (λ (phase : Phase). updateLen p phase (at .held) k) (phase-agrees p (loadedKey r) (loadedNonce r) (r .header) (r .body)
       (r .phase))
-      ∙ update-agrees p (r .key) (r .nonce) (r .header) (r .body) (r .phase) k
+      ∙ update-agrees p (loadedKey r) (loadedNonce r) (r .header) (r .body) (r .phase) k
 
   pub total-answer : (k : ℕ) → outputLen (engineOf v r mac n) k ≡ totalLen (paramsOf v) (r .phase) (readerHeld (paramsOf v) r) k
   unfolding outputLen
   total-answer k =
       let p = paramsOf v in
-      let at = pointIn p (r .phase) (r .key) (r .nonce) (r .header) (r .body) in
-      ap (λ (phase : Phase). totalLen p phase (at .held) k) (phase-agrees p (r .key) (r .nonce) (r .header) (r .body)
+      let at = pointIn p (r .phase) (loadedKey r) (loadedNonce r) (r .header) (r .body) in
+      ap (λ (phase : Phase). totalLen p phase (at .held) k) (phase-agrees p (loadedKey r) (loadedNonce r) (r .header) (r .body)
       (r .phase))
-      ∙ total-agrees p (r .key) (r .nonce) (r .header) (r .body) (r .phase) k
+      ∙ total-agrees p (loadedKey r) (loadedNonce r) (r .header) (r .body) (r .phase) k
 
   pub header-answer : (k : ℕ) → aadCheck (engineOf v r mac n .current .phase) k ≡ aadCheck (r .phase) k
   header-answer k =
-      ap (λ (phase : Phase). aadCheck phase k) (phase-agrees (paramsOf v) (r .key) (r .nonce) (r .header) (r .body)
+      ap (λ (phase : Phase). aadCheck phase k) (phase-agrees (paramsOf v) (loadedKey r) (loadedNonce r) (r .header) (r .body)
       (r .phase))
 
 -- a call on the engine that the reader gives
-module _ (v : SparkleVariant) (r : Reader) (mac : Mac) (n : ℕ) (f : r .loaded ≡ true → Fits (paramsOf v) (r .key) (r .nonce))
-    (st : Standing (paramsOf v) (r .phase) (r .loaded) (r .key) (r .nonce) (r .initial) (r .header) (r .body) mac n) where
+module _ (v : SparkleVariant) (r : Reader) (mac : Mac) (n : ℕ) (f : Remembers (paramsOf v) (r .loads))
+    (st : Standing (paramsOf v) (r .phase) (r .loads) (r .initial) (r .header) (r .body) mac n) where
   unchanged : Follows v (engineOf v r mac n) r
   unchanged = record { mac = mac; count = n; same-engine = refl; fits = f; standing = st }
 
@@ -616,7 +622,7 @@ module _ (v : SparkleVariant) (r : Reader) (mac : Mac) (n : ℕ) (f : r .loaded 
       let k = startCheck v d (length key) (length nonce) size (repeated r key nonce) in
       subst (λ (b : Bool). Follows v (initBy (startCheck v d (length key) (length nonce) size b) (engineOf v r mac n) d key nonce h .engine)
       (readStart k r d key nonce h .reader))
-      (sym (repeats-agree p (small v) (r .loaded) (r .key) (r .nonce) f key nonce))
+      (sym (repeats-agree p (small v) (r .loads) f key nonce))
       (start-follows v r mac n f d key nonce h k
       (λ e. let g = startCheck-lengths v d (length key) (length nonce) size (repeated r key nonce) e in record { key-fits = g .0; nonce-fits = g .1 }))
 
@@ -630,7 +636,7 @@ module _ (v : SparkleVariant) (r : Reader) (mac : Mac) (n : ℕ) (f : r .loaded 
       (sym (header-answer v r mac n (suc (length input))))
       (subst (λ (k : AeadResult). Follows v (aadBy k (engineOf v r mac n) (x ∷ input) .engine) (readHeader k r (x ∷ input) .reader))
       (sym (aad-some (r .phase) (length input)))
-      (header-follows v (r .loaded) (r .key) (r .nonce) (r .initial) f (r .phase) (r .header) (r .body) mac n st x input))
+      (header-follows v (r .loads) (r .initial) f (r .phase) (r .header) (r .body) mac n st x input))
 
   header-step : (input : List ℕ)
       → Follows v (processAadBytes (engineOf v r mac n) input .engine) (read v r (Call.Aad input) .reader)
@@ -648,15 +654,15 @@ module _ (v : SparkleVariant) (r : Reader) (mac : Mac) (n : ℕ) (f : r .loaded 
       subst (λ (k : AeadResult). Follows v (dataBy k (engineOf v r mac n) input .engine)
       (read v r (Call.Data input out) .reader))
       (sym (data-answer v r mac n (length input) (length out)))
-      (message-step v (r .phase) (r .loaded) (r .key) (r .nonce) (r .initial) (r .header) (r .body) mac n f st input
+      (message-step v (r .phase) (r .loads) (r .initial) (r .header) (r .body) mac n f st input
       (readerHeld (paramsOf v) r) (length out))
   call-step (Call.Final out) = unfold read in
       subst (λ (k : AeadResult). Follows v (finalBy k (engineOf v r mac n) .engine)
       (read v r (Call.Final out) .reader))
       (sym (final-answer v r mac n (length out)))
-      (end-step v (r .phase) (r .loaded) (r .key) (r .nonce) (r .initial) (r .header) (r .body) mac n f st (length out))
+      (end-step v (r .phase) (r .loads) (r .initial) (r .header) (r .body) mac n f st (length out))
   call-step Call.Reset =
-      unfold read in reset-follows v (r .loaded) (r .key) (r .nonce) (r .initial) f (r .phase) (r .header) (r .body) mac n st
+      unfold read in reset-follows v (r .loads) (r .initial) f (r .phase) (r .header) (r .body) mac n st
   call-step Call.Mac = unfold read in unchanged
   call-step (Call.Update k) = unfold read in unchanged
   call-step (Call.Output k) = unfold read in unchanged

@@ -1,14 +1,14 @@
 -- What the engine is after a list of calls, from what the reader keeps, and what holds in each phase; with the laws of the
 -- parts of a call on such an engine: its points, its step count and its checks.
 use mathlib.Core.Path.{_≡_, refl, sym, ap, ap₂, _∙_}
-use mathlib.Core.Bool.{Bool, true, false, cond}
+use mathlib.Core.Bool.{Bool, true, false, cond, _&&_, _||_}
 use mathlib.Core.List.{List, [], _∷_, _++_}
-use Prim.Native.Nat.{ℕ, _+_, _-_, _*_, _%_, _^_, _≤_, _<_}
+use Prim.Native.Nat.{ℕ, zero, suc, _+_, _-_, _*_, _%_, _^_, _≤_, _<_}
 use native.Mathlib.Nat.{mod-add-mod, add-mul}
 use native.Mathlib.Omega.{arith}
 use lib.Dec.{ltb}
 use borrow.Author.Tests.{ltb-false}
-use lib.ListN.{length}
+use lib.ListN.{length, take, length-take}
 use Rattle.schwaemm.specs.Bytes.{same, ifEmpty}
 use Rattle.schwaemm.specs.Blocks.{ready, after, given, held}
 use Rattle.schwaemm.specs.Schwaemm.{Params, Sizes, mixLast, initialise, absorbBlock, absorb, prepared, messageBlock, decrypt, tag, body as bodyOf, verified, leading, stepsOf, steps}
@@ -32,7 +32,8 @@ use Rattle.tc_aead_cipher.specs.Checks.{opening, keep, heldData, dataCheck, end
 use Rattle.tc_sparkle_aead.specs.Message.{zeros, inArray, noMessage, noMac, stateIn, putState, buffered, stream, blockCount, streamed, startPoint, absorbHeader, headerSteps, plainOf, finalPoint, readable}
 use Rattle.tc_sparkle_aead.specs.Engine.{noPair, repeats, remember, currentKey, noSteps, newEngine}
 use Rattle.tc_aead_cipher.proofs.VariantLaws.{Small}
-use Rattle.claims.specs.Reader.{Reader, newReader, headerPhase}
+use Rattle.claims.specs.Reader.{Load, Reader, newReader, remembered, load, lastKey, lastNonce, among, loadedKey}
+use Rattle.claims.specs.Reader.{loadedNonce, headerPhase}
 use Rattle.claims.proofs.Points.{take-inArray, ready-zero, held-nil, blockPoint, blockPoint-nil, buffered-aad}
 use Rattle.claims.proofs.Points.{buffered-data, state-point, blockCount-point, put-point, streamed-point, given-point}
 
@@ -60,9 +61,10 @@ initialIn p (Aad d) key nonce initial = headPoint p (headerPhase d initial) key 
 initialIn p (Data d) key nonce initial = headPoint p (headerPhase d initial) key nonce initial
 initialIn p (Final d) key nonce initial = headPoint p (headerPhase d initial) key nonce initial
 
-abbrev pub pairIn : Bool → (key nonce : List ℕ) → Pair
-pairIn false key nonce = noPair
-pairIn true key nonce = remember noPair key nonce
+-- What the engine remembers of the loads, which are told last first.
+abbrev pub pairIn : List Load → Pair
+pairIn [] = noPair
+pairIn (l ∷ loads) = remember (pairIn loads) (l .key) (l .nonce)
 
 -- The steps of a message with a header of n bytes, before its data.
 unfoldable pub headCount : Params → ℕ → ℕ
@@ -84,9 +86,9 @@ abbrev pub engineOf : SparkleVariant → Reader → Mac → ℕ → SparkleEngin
 engineOf v r mac n =
     record {
       variant = v;
-      current = pointIn (paramsOf v) (r .phase) (r .key) (r .nonce) (r .header) (r .body);
-      initial = initialIn (paramsOf v) (r .phase) (r .key) (r .nonce) (r .initial);
-      pair = pairIn (r .loaded) (r .key) (r .nonce);
+      current = pointIn (paramsOf v) (r .phase) (loadedKey r) (loadedNonce r) (r .header) (r .body);
+      initial = initialIn (paramsOf v) (r .phase) (loadedKey r) (loadedNonce r) (r .initial);
+      pair = pairIn (r .loads);
       mac = mac;
       steps = record { current = n; initial = initialCount (paramsOf v) (r .phase) (r .initial) };
     }
@@ -105,18 +107,23 @@ openedMac p key nonce header packet =
     cond (verified p key nonce header packet)
     (readable (tag p key nonce header (decrypt p key nonce header (bodyOf p packet)))) noMac
 
-abbrev pub Standing : Params → Phase → Bool → (key nonce initial header body : List ℕ) → Mac → ℕ → Type 0
-Standing p Uninitialized loaded key nonce initial header body mac n = (mac ≡ noMac) × (n ≡ 0)
-Standing p (Init d) loaded key nonce initial header body mac n =
-    (loaded ≡ true) × (mac ≡ noMac) × (n ≡ headCount p (length header)) × (header ≡ []) × (body ≡ [])
-Standing p (Aad d) loaded key nonce initial header body mac n =
-    (loaded ≡ true) × (mac ≡ noMac) × (n ≡ headCount p (length header)) × (0 < length header) × (body ≡ [])
-Standing p (Data d) loaded key nonce initial header body mac n =
-    (loaded ≡ true) × (mac ≡ noMac) × (n ≡ dataCount p d header body)
-Standing p (Final Encrypt) loaded key nonce initial header body mac n =
-    (loaded ≡ true) × Sealed p key nonce initial header body mac n
-Standing p (Final Decrypt) loaded key nonce initial header body mac n =
-    (loaded ≡ true) × (mac ≡ openedMac p key nonce header body)
+-- There is a load.
+abbrev pub isLoaded : List Load → Bool
+isLoaded [] = false
+isLoaded (l ∷ loads) = true
+
+abbrev pub Standing : Params → Phase → List Load → (initial header body : List ℕ) → Mac → ℕ → Type 0
+Standing p Uninitialized loads initial header body mac n = (mac ≡ noMac) × (n ≡ 0)
+Standing p (Init d) loads initial header body mac n =
+    (isLoaded loads ≡ true) × (mac ≡ noMac) × (n ≡ headCount p (length header)) × (header ≡ []) × (body ≡ [])
+Standing p (Aad d) loads initial header body mac n =
+    (isLoaded loads ≡ true) × (mac ≡ noMac) × (n ≡ headCount p (length header)) × (0 < length header) × (body ≡ [])
+Standing p (Data d) loads initial header body mac n =
+    (isLoaded loads ≡ true) × (mac ≡ noMac) × (n ≡ dataCount p d header body)
+Standing p (Final Encrypt) loads initial header body mac n =
+    (isLoaded loads ≡ true) × Sealed p (lastKey loads) (lastNonce loads) initial header body mac n
+Standing p (Final Decrypt) loads initial header body mac n =
+    (isLoaded loads ≡ true) × (mac ≡ openedMac p (lastKey loads) (lastNonce loads) header body)
     × (n ≡ steps p (length header) (length body - p .key) % 2 ^ 64) × (p .key ≤ length body)
 
 -- the sizes of a loaded pair
@@ -124,12 +131,21 @@ pub record Fits (p : Params) (key nonce : List ℕ) : Type 0 where
   pub key-fits : length key ≡ p .key
   pub nonce-fits : length nonce ≡ p .rate
 
+-- the loads: no more than are kept, each with these sizes
+abbrev pub AllFit : Params → List Load → Type 0
+AllFit p [] = Unit {0}
+AllFit p (l ∷ loads) = Fits p (l .key) (l .nonce) × AllFit p loads
+
+pub record Remembers (p : Params) (loads : List Load) : Type 0 where
+  pub at-most : length loads ≤ remembered
+  pub all-fit : AllFit p loads
+
 pub record Follows (v : SparkleVariant) (e : SparkleEngine) (r : Reader) : Type 0 where
   pub mac : Mac
   pub count : ℕ
   pub same-engine : e ≡ engineOf v r mac count
-  pub fits : r .loaded ≡ true → Fits (paramsOf v) (r .key) (r .nonce)
-  pub standing : Standing (paramsOf v) (r .phase) (r .loaded) (r .key) (r .nonce) (r .initial) (r .header)
+  pub fits : Remembers (paramsOf v) (r .loads)
+  pub standing : Standing (paramsOf v) (r .phase) (r .loads) (r .initial) (r .header)
       (r .body) mac count
 
 pub follows-new : (v : SparkleVariant) → Follows v (newEngine v) newReader
@@ -139,7 +155,7 @@ follows-new v =
       mac = noMac;
       count = 0;
       same-engine = refl;
-      fits = λ e. absurd (let z : _≡_ {A = ℕ} 0 1 = cc in omega arith);
+      fits = record { at-most = omega arith; all-fit = tt };
       standing = (refl, refl);
     }
 
@@ -331,34 +347,71 @@ module _ (p : Params) (h : Sizes p) (m : Small p) where
             (counted (p .big + stepsOf p (length header)) (ready (p .rate) (keep p (Data d)) (length body))
             (ready (p .rate) (keep p (Data d)) (length (held (p .rate) (keep p (Data d)) body ++ input))) (p .slim))
 
--- a loaded pair's key and what it repeats
-pub key-back : (p : Params) → Small p → (key nonce : List ℕ) → Fits p key nonce → currentKey p (remember noPair key nonce) ≡ key
-unfolding currentKey remember
-key-back p m key nonce f = take-inArray 32 (p .key) key (omega arith) (f .key-fits)
+-- ---- The loads
 
-pub repeats-agree : (p : Params) → Small p → (loaded : Bool) (k n : List ℕ) → (loaded ≡ true → Fits p k n)
-    → (key nonce : List ℕ)
-    → repeats p (pairIn loaded k n) key nonce ≡ cond loaded (cond (same k key) (same n nonce) false) false
+-- the loads after one more, and the last of them
+take-fits : (p : Params) (n : ℕ) (loads : List Load) → AllFit p loads → AllFit p (take n loads)
+take-fits p zero loads f = tt
+take-fits p (suc n) [] f = tt
+take-fits p (suc n) (l ∷ loads) f = (f .0, take-fits p n loads (f .1))
+
+pub load-remembers : (p : Params) (loads : List Load) (key nonce : List ℕ) → Remembers p loads → Fits p key nonce
+    → Remembers p (load loads key nonce)
+load-remembers p loads key nonce f g =
+    let l : Load = record { key = key; nonce = nonce } in
+    record {
+      at-most = omega (arith, length-take remembered (l ∷ loads));
+      all-fit = take-fits p remembered (l ∷ loads) (g, f .all-fit);
+    }
+
+pub last-fits : (p : Params) (loads : List Load) → Remembers p loads → isLoaded loads ≡ true
+    → Fits p (lastKey loads) (lastNonce loads)
+last-fits p [] f l = absurd (let z : _≡_ {A = ℕ} 0 1 = cc in omega arith)
+last-fits p (x ∷ loads) f l = f .all-fit .0
+
+-- what the engine remembers: one load more, the loaded key, and what is repeated
+pub pair-load : (loads : List Load) (key nonce : List ℕ) → remember (pairIn loads) key nonce ≡ pairIn (load loads key nonce)
+unfolding remember
+pair-load loads key nonce = refl
+
+pub key-back : (p : Params) → Small p → (loads : List Load) → Remembers p loads → isLoaded loads ≡ true
+    → currentKey p (pairIn loads) ≡ lastKey loads
+unfolding currentKey remember
+key-back p m [] f l = absurd (let z : _≡_ {A = ℕ} 0 1 = cc in omega arith)
+key-back p m (x ∷ loads) f l = take-inArray 32 (p .key) (x .key) (omega arith) (f .all-fit .0 .key-fits)
+
+cond-and : (a b : Bool) → cond a b false ≡ (a && b || false)
+cond-and true true = refl
+cond-and true false = refl
+cond-and false b = refl
+
+pub repeats-agree : (p : Params) → Small p → (loads : List Load) → Remembers p loads → (key nonce : List ℕ)
+    → repeats p (pairIn loads) key nonce ≡ among loads key nonce
 unfolding repeats noPair remember
-repeats-agree p m false k n f key nonce = refl
-repeats-agree p m true k n f key nonce =
-    let g = f refl in
-    rw (take-inArray 32 (p .key) k (omega arith) (g .key-fits), take-inArray 32 (p .rate) n (omega arith) (g .nonce-fits))
+repeats-agree p m [] f key nonce = refl
+repeats-agree p m (x ∷ []) f key nonce =
+    let g = f .all-fit .0 in
+    rw (
+      take-inArray 32 (p .key) (x .key) (omega arith) (g .key-fits),
+      take-inArray 32 (p .rate) (x .nonce) (omega arith) (g .nonce-fits),
+    )
+    (cond-and (same (x .key) key) (same (x .nonce) nonce))
+repeats-agree p m (x ∷ (y ∷ loads)) f key nonce = absurd (omega (arith, f .at-most))
 
 -- ---- The checks agree
 
+-- what the reader holds
+abbrev pub pointHeld : Params → (body : List ℕ) → Phase → ℕ
+pointHeld p body phase = length body - ready (p .rate) (keep p phase) (length body) * p .rate
+
 module _ (p : Params) (key nonce header body : List ℕ) where
-  -- what is held, where it counts
-  pub held-agrees : (d : Direction)
-      → dataPoint p d key nonce header body .held ≡ length body - ready (p .rate) (keep p (Data d)) (length body) * p .rate
+  -- the engine holds as much, where it counts
+  pub held-agrees : (d : Direction) → dataPoint p d key nonce header body .held ≡ pointHeld p body (Data d)
   unfolding dataPoint blockPoint
   held-agrees d = length-held (p .rate) (keep p (Data d)) body
 
-  abbrev pub pointHeld : Phase → ℕ
-  pointHeld phase = length body - ready (p .rate) (keep p phase) (length body) * p .rate
-
   pub data-agrees : (phase : Phase) (n a : ℕ)
-      → dataCheck p phase (pointIn p phase key nonce header body .held) n a ≡ dataCheck p phase (pointHeld phase) n a
+      → dataCheck p phase (pointIn p phase key nonce header body .held) n a ≡ dataCheck p phase (pointHeld p body phase) n a
   unfolding dataCheck updateLen
   data-agrees Uninitialized n a = refl
   data-agrees (Init d) n a = refl
@@ -367,7 +420,7 @@ module _ (p : Params) (key nonce header body : List ℕ) where
   data-agrees (Final d) n a = refl
 
   pub update-agrees : (phase : Phase) (n : ℕ)
-      → updateLen p phase (pointIn p phase key nonce header body .held) n ≡ updateLen p phase (pointHeld phase) n
+      → updateLen p phase (pointIn p phase key nonce header body .held) n ≡ updateLen p phase (pointHeld p body phase) n
   unfolding updateLen
   update-agrees Uninitialized n = refl
   update-agrees (Init d) n = refl
@@ -376,7 +429,7 @@ module _ (p : Params) (key nonce header body : List ℕ) where
   update-agrees (Final d) n = refl
 
   pub total-agrees : (phase : Phase) (n : ℕ)
-      → totalLen p phase (pointIn p phase key nonce header body .held) n ≡ totalLen p phase (pointHeld phase) n
+      → totalLen p phase (pointIn p phase key nonce header body .held) n ≡ totalLen p phase (pointHeld p body phase) n
   unfolding totalLen
   total-agrees Uninitialized n = refl
   total-agrees (Init d) n = refl
@@ -385,7 +438,7 @@ module _ (p : Params) (key nonce header body : List ℕ) where
   total-agrees (Final d) n = refl
 
   pub end-agrees : (phase : Phase) (a : ℕ)
-      → endCheck p phase (pointIn p phase key nonce header body .held) a ≡ endCheck p phase (pointHeld phase) a
+      → endCheck p phase (pointIn p phase key nonce header body .held) a ≡ endCheck p phase (pointHeld p body phase) a
   unfolding endCheck totalLen
   end-agrees Uninitialized a = refl
   end-agrees (Init d) a = refl

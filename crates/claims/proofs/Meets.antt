@@ -24,7 +24,7 @@ use Rattle.claims.specs.Shape.{shape}
 use Rattle.tc_aead_cipher.specs.Outcome.{outcome, startOutcome}
 use Rattle.tc_sparkle_aead.specs.Sheet.{step, Line, line, lines, sheet}
 use Rattle.claims.specs.Reader.{verdictOf, Reader, newReader, repeated, readerHeld, readStart, readEnd, endIn, read}
-use Rattle.claims.specs.Reader.{readFrom, reader}
+use Rattle.claims.specs.Reader.{loadedKey, loadedNonce, readFrom, reader}
 use Rattle.claims.specs.Messages.{openOutcome, endOutcome, answerOf}
 use Rattle.claims.specs.Machine.{engine, after, linesOf, Demand3}
 use Rattle.claims.proofs.PublicState.{publicOf, yes, headerShows, shows, shows-is, start-verdict}
@@ -66,21 +66,21 @@ open-shown false n = refl
 end-phase : (p : Params) (r : Reader) (phase : Phase) (n available : ℕ)
     → endCheck p phase (readerHeld p r) available ≡ Ok n
     → endOutcome (Ok n) (opening phase) (yes (endIn phase p r .verdict))
-    ≡ endOutcome (Ok n) (opening phase) (verified p (r .key) (r .nonce) (r .header) (r .body))
+    ≡ endOutcome (Ok n) (opening phase) (verified p (loadedKey r) (loadedNonce r) (r .header) (r .body))
 unfolding endCheck
 end-phase p r Uninitialized n available c = refl
 end-phase p r (Init Encrypt) n available c = refl
-end-phase p r (Init Decrypt) n available c = open-shown (verified p (r .key) (r .nonce) (r .header) (r .body)) n
+end-phase p r (Init Decrypt) n available c = open-shown (verified p (loadedKey r) (loadedNonce r) (r .header) (r .body)) n
 end-phase p r (Aad Encrypt) n available c = refl
-end-phase p r (Aad Decrypt) n available c = open-shown (verified p (r .key) (r .nonce) (r .header) (r .body)) n
+end-phase p r (Aad Decrypt) n available c = open-shown (verified p (loadedKey r) (loadedNonce r) (r .header) (r .body)) n
 end-phase p r (Data Encrypt) n available c = refl
-end-phase p r (Data Decrypt) n available c = open-shown (verified p (r .key) (r .nonce) (r .header) (r .body)) n
+end-phase p r (Data Decrypt) n available c = open-shown (verified p (loadedKey r) (loadedNonce r) (r .header) (r .body)) n
 end-phase p r (Final d) n available c = absurd (let z : _≡_ {A = ℕ} 0 1 = cc in omega arith)
 
 end-shown : (p : Params) (r : Reader) (k : AeadResult) (available : ℕ)
     → endCheck p (r .phase) (readerHeld p r) available ≡ k
     → endOutcome k (opening (r .phase)) (yes (readEnd k p r .verdict))
-    ≡ endOutcome k (opening (r .phase)) (verified p (r .key) (r .nonce) (r .header) (r .body))
+    ≡ endOutcome k (opening (r .phase)) (verified p (loadedKey r) (loadedNonce r) (r .header) (r .body))
 end-shown p r (Err x) available c = refl
 end-shown p r (Ok n) available c = end-phase p r (r .phase) n available c
 
@@ -107,7 +107,7 @@ module _ (v w : SparkleVariant) (r : Reader) (phase : Phase) (k : ℕ) (variant 
       → endOutcome (endCheck (paramsOf w) phase k available) (opening phase)
       (yes (readEnd (endCheck (paramsOf v) (r .phase) (readerHeld (paramsOf v) r) available) (paramsOf v) r .verdict))
       ≡ endOutcome (endCheck (paramsOf v) (r .phase) (readerHeld (paramsOf v) r) available) (opening (r .phase))
-      (verified (paramsOf v) (r .key) (r .nonce) (r .header) (r .body))
+      (verified (paramsOf v) (loadedKey r) (loadedNonce r) (r .header) (r .body))
   end-expected available =
       rw (variant, same-phase, endCheck-held (paramsOf v) (r .phase) k (readerHeld (paramsOf v) r) available held)
       (end-shown (paramsOf v) r (endCheck (paramsOf v) (r .phase) (readerHeld (paramsOf v) r) available) available refl)

@@ -35,10 +35,10 @@ use Rattle.tc_sparkle_aead.specs.Sheet.{step, runFrom, run}
 use Rattle.tc_aead_cipher.specs.Outcome.{Outcome, outcome, startOutcome}
 use Rattle.claims.specs.Refused.{Active}
 use Rattle.claims.specs.Reader.{Reader, readerHeld, headerPhase, repeated, aadPhase, readHeader, readMessage, read}
-use Rattle.claims.specs.Reader.{readFrom, reader}
-use Rattle.claims.specs.Messages.{messageOf, headerIn, dataOf, countOf, outputs, Between, AllBetween, Each, startedEngine}
-use Rattle.claims.specs.Messages.{headerBytes, dataBytes, HeaderCall, DataCall, messageCalls, RoomFor, Rooms, Ample, IsAccepted}
-use Rattle.claims.specs.Messages.{Accepts, Completes, Rejects, RoundTrip}
+use Rattle.claims.specs.Reader.{Load, loadedKey, loadedNonce, readFrom, reader}
+use Rattle.claims.specs.Messages.{messageOf, headerIn, dataOf, countOf, outputs, Between, AllBetween, Each}
+use Rattle.claims.specs.Messages.{startedEngine, headerBytes, dataBytes, HeaderCall, DataCall, messageCalls, RoomFor}
+use Rattle.claims.specs.Messages.{Rooms, Ample, IsAccepted, Accepts, Completes, Rejects, RoundTrip}
 use Rattle.claims.proofs.Packets.{length-body}
 use Rattle.claims.proofs.Kept.{Follows, Standing, engineOf}
 use Rattle.claims.proofs.Follows.{kept, follows-step, follows-from, follows-run, aad-some, header-answer}
@@ -150,7 +150,7 @@ absorb-more v d e r c calls t h b q =
 
 header-read : (v : SparkleVariant) (r : Reader) {d : Direction} → Heading d (r .phase) → (input : List ℕ)
     → read v r (Call.Aad input) .reader
-    ≡ kept (r .loaded) (r .key) (r .nonce) (r .initial) (aadPhase (r .phase) input) (r .header ++ input) (r .body)
+    ≡ kept (r .loads) (r .initial) (aadPhase (r .phase) input) (r .header ++ input) (r .body)
 unfolding read
 header-read v r t input = ap (λ (k : AeadResult). readHeader k r input .reader) (aad-passes t input)
 
@@ -353,14 +353,14 @@ unfolding ready
 rest-tag rate keep n h = omega (arith, div-mul-le-self (n - (keep + 1)) rate)
 
 active-held : (p : Params) → Sizes p → {phase : Phase} → Active Decrypt phase
-    → (loaded : Bool) (key nonce initial header body : List ℕ) (mac : Mac) (c : ℕ)
-    → Standing p phase loaded key nonce initial header body mac c → p .key ≤ length body
-    → p .key ≤ heldData p phase (readerHeld p (kept loaded key nonce initial phase header body))
-active-held p s Active.in-init loaded key nonce initial header body mac c st enough =
+    → (loads : List Load) (initial header body : List ℕ) (mac : Mac) (c : ℕ)
+    → Standing p phase loads initial header body mac c → p .key ≤ length body
+    → p .key ≤ heldData p phase (readerHeld p (kept loads initial phase header body))
+active-held p s Active.in-init loads initial header body mac c st enough =
     absurd (omega (arith, ap length (st .4)))
-active-held p s Active.in-aad loaded key nonce initial header body mac c st enough =
+active-held p s Active.in-aad loads initial header body mac c st enough =
     absurd (omega (arith, ap length (st .4)))
-active-held p s Active.in-data loaded key nonce initial header body mac c st enough =
+active-held p s Active.in-data loads initial header body mac c st enough =
     omega (arith, rest-tag (p .rate) (p .key) (length body) enough)
 
 open-passes : (v : SparkleVariant) (e : SparkleEngine) (r : Reader) → Follows v e r → Active Decrypt (r .phase)
@@ -373,7 +373,7 @@ open-passes v e r w t out enough tagged =
     let n = enough .0 in
     let u : totalLen p (r .phase) h 0 ≡ Ok n = outcome-ok _ n (sym (total-outcome v e r w 0) ∙ enough .1) in
     let k =
-    active-held p (sizes v) t (r .loaded) (r .key) (r .nonce) (r .initial) (r .header) (r .body) (w .mac) (w .count)
+    active-held p (sizes v) t (r .loads) (r .initial) (r .header) (r .body) (w .mac) (w .count)
     (w .standing) tagged in (
       n,
       end-passes p t h (length out) n u (enough .2)
@@ -401,19 +401,19 @@ heading-takes heading-init = Active.in-init
 heading-takes heading-aad = Active.in-aad
 
 -- header and data calls after a start that is taken
-record Arrived (v : SparkleVariant) (d : Direction) (key nonce initial : List ℕ) (e : SparkleEngine)
+record Arrived (v : SparkleVariant) (before : List Call) (d : Direction) (key nonce initial : List ℕ) (e : SparkleEngine)
     (hs ms : List Call) : Type 0 where
   taken : Accepts e (hs ++ ms)
-  header-is : lastReader v d key nonce initial (hs ++ ms) .header ≡ initial ++ headerBytes hs
-  body-is : lastReader v d key nonce initial (hs ++ ms) .body ≡ dataBytes ms
+  header-is : lastReader v before d key nonce initial (hs ++ ms) .header ≡ initial ++ headerBytes hs
+  body-is : lastReader v before d key nonce initial (hs ++ ms) .body ≡ dataBytes ms
 
-arrived : (v : SparkleVariant) (d : Direction) (key nonce initial : List ℕ) (e : SparkleEngine)
-    → Follows v e (startedReader d key nonce initial)
+arrived : (v : SparkleVariant) (before : List Call) (d : Direction) (key nonce initial : List ℕ) (e : SparkleEngine)
+    → Follows v e (startedReader (reader v before) d key nonce initial)
     → (hs ms : List Call) → Each HeaderCall hs → Each DataCall ms → Rooms e (hs ++ ms)
-    → Arrived v d key nonce initial e hs ms
-arrived v d key nonce initial e w hs ms bh bm rooms =
+    → Arrived v before d key nonce initial e hs ms
+arrived v before d key nonce initial e w hs ms bh bm rooms =
     let p = paramsOf v in
-    let r1 = startedReader d key nonce initial in
+    let r1 = startedReader (reader v before) d key nonce initial in
     let r2 = readFrom v r1 hs in
     let room = rooms-append e hs ms rooms in
     let hq = headers-taken v d e r1 w (start-heading d initial) hs bh in
@@ -458,24 +458,24 @@ module _ (v : SparkleVariant) (before : List Call) (key nonce : List ℕ) (size 
         × Rooms (runFrom (startedEngine v before d key nonce size initial) (hs ++ ms)) (Call.Final out ∷ [])
     end-room = rooms-append (startedEngine v before d key nonce size initial) (hs ++ ms) (Call.Final out ∷ []) (rooms .1)
 
-    ready-end : Arrived v d key nonce initial (startedEngine v before d key nonce size initial) hs ms
+    ready-end : Arrived v before d key nonce initial (startedEngine v before d key nonce size initial) hs ms
     ready-end =
-        arrived v d key nonce initial (startedEngine v before d key nonce size initial)
+        arrived v before d key nonce initial (startedEngine v before d key nonce size initial)
         (start-follows v before d key nonce size initial (hs ++ ms) out 0 o (between d)) hs ms bh bm (end-room .0)
 
     end-follows : Follows v (runFrom (startedEngine v before d key nonce size initial) (hs ++ ms))
-        (lastReader v d key nonce initial (hs ++ ms))
+        (lastReader v before d key nonce initial (hs ++ ms))
     end-follows = last-follows v before d key nonce size initial (hs ++ ms) out 0 o (between d)
 
-    end-going : Going d key nonce (lastReader v d key nonce initial (hs ++ ms))
+    end-going : Going d key nonce (lastReader v before d key nonce initial (hs ++ ms))
     end-going = last-going v before d key nonce size initial (hs ++ ms) out 0 o (between d)
 
     -- what is said of the last reader's parts is said of what was handed in
     in-parts : (A : Type 0) (g : (key nonce header body : List ℕ) → A)
-        → (let r = lastReader v d key nonce initial (hs ++ ms) in g (r .key) (r .nonce) (r .header) (r .body))
+        → (let r = lastReader v before d key nonce initial (hs ++ ms) in g (loadedKey r) (loadedNonce r) (r .header) (r .body))
         ≡ g key nonce (initial ++ headerBytes hs) (dataBytes ms)
     in-parts A g =
-        let r = lastReader v d key nonce initial (hs ++ ms) in
+        let r = lastReader v before d key nonce initial (hs ++ ms) in
         ap₂ (λ (x y : List ℕ). g x y (r .header) (r .body)) (end-going .key-is) (end-going .nonce-is)
         ∙ ap₂ (λ (x y : List ℕ). g key nonce x y) (ready-end .header-is) (ready-end .body-is)
 
@@ -496,7 +496,7 @@ module _ (v : SparkleVariant) (before : List Call) (key nonce : List ℕ) (size 
   unfolding messageOf
   sealed fresh rooms =
       let p = paramsOf v in
-      let r = lastReader v Encrypt key nonce initial (hs ++ ms) in
+      let r = lastReader v before Encrypt key nonce initial (hs ++ ms) in
       let o = sealing-starts fresh in
       let w = end-follows Encrypt o rooms in
       let t = end-going Encrypt o rooms .takes in
@@ -505,7 +505,7 @@ module _ (v : SparkleVariant) (before : List Call) (key nonce : List ℕ) (size 
       let f = seal-end v _ r w out (q .0) (q .1) (active-opening t) .outcome-is in
       let z = end-ended v _ r w out (q .0) (q .1) in
       let sealing =
-      ap (λ (b : Bool). cond b (decrypt p (r .key) (r .nonce) (r .header) (bodyOf p (r .body))) (r .body))
+      ap (λ (b : Bool). cond b (decrypt p (loadedKey r) (loadedNonce r) (r .header) (bodyOf p (r .body))) (r .body))
       (active-opening t) in
       record {
         accepted = ((0, o), accepts-append _ (hs ++ ms) (Call.Final out ∷ []) (a .taken) ((q .0, f), tt));
@@ -514,9 +514,9 @@ module _ (v : SparkleVariant) (before : List Call) (key nonce : List ℕ) (size 
             ∙ ap₂ (λ (x y : List ℕ). seal p key nonce x y) (a .header-is) (a .body-is);
         tag-is =
             ap macOf (whole-run Encrypt o rooms) ∙ z .mac-is
-            ∙ ap (λ (b : Bool). cond (cond b (verified p (r .key) (r .nonce) (r .header) (r .body)) true)
-            (readable (tag p (r .key) (r .nonce) (r .header) (messageOf p r))) noMac) (active-opening t)
-            ∙ ap (λ (x : List ℕ). readable (tag p (r .key) (r .nonce) (r .header) x)) sealing
+            ∙ ap (λ (b : Bool). cond (cond b (verified p (loadedKey r) (loadedNonce r) (r .header) (r .body)) true)
+            (readable (tag p (loadedKey r) (loadedNonce r) (r .header) (messageOf p r))) noMac) (active-opening t)
+            ∙ ap (λ (x : List ℕ). readable (tag p (loadedKey r) (loadedNonce r) (r .header) x)) sealing
             ∙ in-parts Encrypt o rooms Mac (λ k n x y. readable (tag p k n x y));
         steps-are =
             ap stepsNow (whole-run Encrypt o rooms) ∙ z .steps-are
@@ -530,26 +530,26 @@ module _ (v : SparkleVariant) (before : List Call) (key nonce : List ℕ) (size 
       (tagged : paramsOf v .key ≤ length (dataBytes ms)) where
     -- an opening's end past its checks
     open-checked : (n : ℕ)
-        × (endCheck (paramsOf v) (lastReader v Decrypt key nonce initial (hs ++ ms) .phase)
-        (readerHeld (paramsOf v) (lastReader v Decrypt key nonce initial (hs ++ ms))) (length out) ≡ Ok n)
+        × (endCheck (paramsOf v) (lastReader v before Decrypt key nonce initial (hs ++ ms) .phase)
+        (readerHeld (paramsOf v) (lastReader v before Decrypt key nonce initial (hs ++ ms))) (length out) ≡ Ok n)
     open-checked =
         open-passes v _ _ (end-follows Decrypt opening-starts rooms) (end-going Decrypt opening-starts rooms .takes) out
         (end-room Decrypt opening-starts rooms .1 .0) (omega (arith, ap length (ready-end Decrypt opening-starts rooms .body-is)))
 
     -- the message is what the packet decrypts to
-    open-message : messageOf (paramsOf v) (lastReader v Decrypt key nonce initial (hs ++ ms))
+    open-message : messageOf (paramsOf v) (lastReader v before Decrypt key nonce initial (hs ++ ms))
         ≡ decrypt (paramsOf v) key nonce (initial ++ headerBytes hs) (bodyOf (paramsOf v) (dataBytes ms))
     unfolding messageOf
     open-message =
         let p = paramsOf v in
-        let r = lastReader v Decrypt key nonce initial (hs ++ ms) in
-        ap (λ (b : Bool). cond b (decrypt p (r .key) (r .nonce) (r .header) (bodyOf p (r .body))) (r .body))
+        let r = lastReader v before Decrypt key nonce initial (hs ++ ms) in
+        ap (λ (b : Bool). cond b (decrypt p (loadedKey r) (loadedNonce r) (r .header) (bodyOf p (r .body))) (r .body))
         (active-opening (end-going Decrypt opening-starts rooms .takes))
         ∙ in-parts Decrypt opening-starts rooms (List ℕ) (λ k n x y. decrypt p k n x (bodyOf p y))
 
     open-steps : (e : SparkleEngine) → stepsNow e
-        ≡ steps (paramsOf v) (length (lastReader v Decrypt key nonce initial (hs ++ ms) .header))
-        (length (messageOf (paramsOf v) (lastReader v Decrypt key nonce initial (hs ++ ms)))) % 2 ^ 64
+        ≡ steps (paramsOf v) (length (lastReader v before Decrypt key nonce initial (hs ++ ms) .header))
+        (length (messageOf (paramsOf v) (lastReader v before Decrypt key nonce initial (hs ++ ms)))) % 2 ^ 64
         → stepsNow e ≡ steps (paramsOf v) (length (initial ++ headerBytes hs)) (length (dataBytes ms) - paramsOf v .key) % 2 ^ 64
     open-steps e h =
         let p = paramsOf v in
@@ -561,10 +561,10 @@ module _ (v : SparkleVariant) (before : List Call) (key nonce : List ℕ) (size 
         (dataBytes ms) tagged)
 
     module _ (g : Bool) (is : verified (paramsOf v) key nonce (initial ++ headerBytes hs) (dataBytes ms) ≡ g) where
-      open-verdict : verified (paramsOf v) (lastReader v Decrypt key nonce initial (hs ++ ms) .key)
-          (lastReader v Decrypt key nonce initial (hs ++ ms) .nonce)
-          (lastReader v Decrypt key nonce initial (hs ++ ms) .header)
-          (lastReader v Decrypt key nonce initial (hs ++ ms) .body) ≡ g
+      open-verdict : verified (paramsOf v) (loadedKey (lastReader v before Decrypt key nonce initial (hs ++ ms)))
+          (loadedNonce (lastReader v before Decrypt key nonce initial (hs ++ ms)))
+          (lastReader v before Decrypt key nonce initial (hs ++ ms) .header)
+          (lastReader v before Decrypt key nonce initial (hs ++ ms) .body) ≡ g
       open-verdict = in-parts Decrypt opening-starts rooms Bool (verified (paramsOf v)) ∙ is
 
       open-outcome : step (runFrom (startedEngine v before Decrypt key nonce size initial) (hs ++ ms)) (Call.Final out) .outcome
@@ -580,15 +580,15 @@ module _ (v : SparkleVariant) (before : List Call) (key nonce : List ℕ) (size 
           (decrypt (paramsOf v) key nonce (initial ++ headerBytes hs) (bodyOf (paramsOf v) (dataBytes ms))))) noMac
       open-mac =
           let p = paramsOf v in
-          let r = lastReader v Decrypt key nonce initial (hs ++ ms) in
+          let r = lastReader v before Decrypt key nonce initial (hs ++ ms) in
           let H = initial ++ headerBytes hs in
           let z = end-ended v _ r (end-follows Decrypt opening-starts rooms) out (open-checked .0) (open-checked .1) in
           let t = active-opening (end-going Decrypt opening-starts rooms .takes) in
           z .mac-is
-          ∙ ap₂ (λ (b : Bool) (x : List ℕ). cond (cond b (verified p (r .key) (r .nonce) (r .header) (r .body)) true)
-          (readable (tag p (r .key) (r .nonce) (r .header) x)) noMac)
+          ∙ ap₂ (λ (b : Bool) (x : List ℕ). cond (cond b (verified p (loadedKey r) (loadedNonce r) (r .header) (r .body)) true)
+          (readable (tag p (loadedKey r) (loadedNonce r) (r .header) x)) noMac)
           t open-message
-          ∙ ap (λ (b : Bool). cond b (readable (tag p (r .key) (r .nonce) (r .header) (decrypt p key nonce H (bodyOf p (dataBytes ms))))) noMac) open-verdict
+          ∙ ap (λ (b : Bool). cond b (readable (tag p (loadedKey r) (loadedNonce r) (r .header) (decrypt p key nonce H (bodyOf p (dataBytes ms))))) noMac) open-verdict
           ∙ in-parts Decrypt opening-starts rooms Mac (λ k n x y. cond g
           (readable (tag p k n x (decrypt p key nonce H (bodyOf p (dataBytes ms))))) noMac)
 

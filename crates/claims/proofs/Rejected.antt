@@ -31,6 +31,7 @@ use Rattle.tc_aead_cipher.specs.Outcome.{outcome, startOutcome}
 use Rattle.tc_sparkle_aead.specs.Sheet.{step, Line, line}
 use Rattle.tc_aead_cipher.specs.Outcome.Outcome.{ok, no}
 use Rattle.claims.specs.Reader.{Reader, newReader, readerHeld, repeated, read, notes, verdicts, reader, readFrom}
+use Rattle.claims.specs.Reader.{loadedKey, loadedNonce}
 use Rattle.claims.specs.Reader.Verdict.{Yes, No}
 use Rattle.claims.specs.Messages.{endOutcome, answerOf}
 use Rattle.claims.specs.Refused.{lent}
@@ -350,7 +351,7 @@ ten-only-in-final v r (Call.Data input out) values q =
 ten-only-in-final v r (Call.Final out) values q =
     let p = paramsOf v in
     end-ten p (r .phase) (readerHeld p r) (length out) (opening (r .phase))
-    (verified p (r .key) (r .nonce) (r .header) (r .body)) values q
+    (verified p (loadedKey r) (loadedNonce r) (r .header) (r .body)) values q
 ten-only-in-final v r Call.Reset values q = absurd (ok-not 0 .never values q)
 ten-only-in-final v r Call.Mac values q = absurd (ok-not 0 .never values q)
 ten-only-in-final v r (Call.Update n) values q =

@@ -24,7 +24,7 @@ use Rattle.tc_sparkle_aead.specs.Calls.{dataIn, dataBy, dataAnswer, processByte
 use Rattle.tc_sparkle_aead.specs.Calls.{reset as resetEngine}
 use Rattle.tc_aead_cipher.specs.Call.{Call}
 use Rattle.tc_sparkle_aead.specs.Sheet.{step, Line, line, lines, sheet}
-use Rattle.claims.specs.Reader.{Reader, newReader, readerHeld, read}
+use Rattle.claims.specs.Reader.{Reader, newReader, readerHeld, read, loadedKey, loadedNonce}
 use Rattle.claims.specs.Messages.{shownByEnd, shownAfter, shownTags}
 use Rattle.claims.specs.Machine.{engine, sheetOf}
 use Rattle.claims.proofs.Kept.{Follows, engineOf, follows-new}
@@ -114,13 +114,13 @@ module _ (v : SparkleVariant) (e : SparkleEngine) (r : Reader) (w : Follows v e 
           ∙ ap (λ (k : AeadResult). macOf (finalBy k E .engine) .readable) (final-answer v r (w .mac) (w .count) (length out) ∙ q)
           ∙ ap (λ (y : SparkleEngine). macOf y .readable) (sym (w .same-engine))
           ∙ sym (ap (λ (k : AeadResult). shownByEnd k (opening (r .phase))
-          (verified (paramsOf v) (r .key) (r .nonce) (r .header) (r .body)) (macOf e .readable)) q)
+          (verified (paramsOf v) (loadedKey r) (loadedNonce r) (r .header) (r .body)) (macOf e .readable)) q)
       by (Ok n) q =
-          let good = cond (opening (r .phase)) (verified (paramsOf v) (r .key) (r .nonce) (r .header) (r .body)) true in
+          let good = cond (opening (r .phase)) (verified (paramsOf v) (loadedKey r) (loadedNonce r) (r .header) (r .body)) true in
           ap (λ (m : Mac). m .readable) (end-ended v e r w out n q .mac-is) ∙ shown-is good _
-          ∙ end-shows (opening (r .phase)) (verified (paramsOf v) (r .key) (r .nonce) (r .header) (r .body)) (macOf e .readable) n
+          ∙ end-shows (opening (r .phase)) (verified (paramsOf v) (loadedKey r) (loadedNonce r) (r .header) (r .body)) (macOf e .readable) n
           ∙ sym (ap (λ (k : AeadResult). shownByEnd k (opening (r .phase))
-          (verified (paramsOf v) (r .key) (r .nonce) (r .header) (r .body)) (macOf e .readable)) q)
+          (verified (paramsOf v) (loadedKey r) (loadedNonce r) (r .header) (r .body)) (macOf e .readable)) q)
 
   -- ---- Every call.
 

@@ -74,18 +74,18 @@ ended-over (Final d) p r is u = subst UnderWay is u
 
 start-nothing : (k : AeadInitResult) (p : Params) (r : Reader) (d : Direction) (key nonce h : List ℕ)
     → UnderWay (readStart k r d key nonce h .reader .phase) → [] ≡ released p (readStart k r d key nonce h .reader)
-start-nothing StartOk p r d key nonce h u = sym (released-none p _ key nonce h (headerPhase d h) h [] refl)
+start-nothing StartOk p r d key nonce h u = sym (released-none p _ h (headerPhase d h) h [] refl)
 start-nothing (StartErr x) p r d key nonce h u = absurd u
 
 reset-nothing : (phase : Phase) (p : Params) (r : Reader) → r .phase ≡ phase → UnderWay (resetIn phase r .phase)
     → [] ≡ released p (resetIn phase r)
 reset-nothing Uninitialized p r is u = absurd (subst UnderWay is u)
-reset-nothing (Init d) p r is u = sym (released-none p _ _ _ _ (headerPhase d (r .initial)) (r .initial) [] refl)
-reset-nothing (Aad d) p r is u = sym (released-none p _ _ _ _ (headerPhase d (r .initial)) (r .initial) [] refl)
+reset-nothing (Init d) p r is u = sym (released-none p _ _ (headerPhase d (r .initial)) (r .initial) [] refl)
+reset-nothing (Aad d) p r is u = sym (released-none p _ _ (headerPhase d (r .initial)) (r .initial) [] refl)
 reset-nothing (Data Encrypt) p r is u = absurd u
-reset-nothing (Data Decrypt) p r is u = sym (released-none p _ _ _ _ (headerPhase Decrypt (r .initial)) (r .initial) [] refl)
+reset-nothing (Data Decrypt) p r is u = sym (released-none p _ _ (headerPhase Decrypt (r .initial)) (r .initial) [] refl)
 reset-nothing (Final Encrypt) p r is u = absurd (subst UnderWay is u)
-reset-nothing (Final Decrypt) p r is u = sym (released-none p _ _ _ _ (headerPhase Decrypt (r .initial)) (r .initial) [] refl)
+reset-nothing (Final Decrypt) p r is u = sym (released-none p _ _ (headerPhase Decrypt (r .initial)) (r .initial) [] refl)
 
 -- ---- A call, and a list of calls.
 

@@ -33,11 +33,12 @@ use Rattle.tc_sparkle_aead.specs.Sheet.{StepResult, step, runFrom, run}
 use Rattle.tc_aead_cipher.specs.Outcome.{Outcome, outcome, startOutcome}
 use Rattle.claims.specs.Refused.{Active}
 use Rattle.claims.specs.Reader.{Reader, readerHeld, headerPhase, repeated, aadPhase, dataPhase, readHeader, readMessage}
-use Rattle.claims.specs.Reader.{readStart, readEnd, read, readFrom, reader}
+use Rattle.claims.specs.Reader.{Load, loadedKey, loadedNonce, lastKey, load, lastNonce, readStart, readEnd, read}
+use Rattle.claims.specs.Reader.{readFrom, reader}
 use Rattle.claims.specs.Messages.{released, Writes, countOf, wrote, outputs, headerIn, dataOf, RefusedByCheck, Between}
 use Rattle.claims.specs.Messages.{AllBetween, ifOk, acceptedHeader, acceptedData, startedEngine, OpenedUnrefused}
 use Rattle.claims.proofs.Points.{ready-zero}
-use Rattle.claims.proofs.Kept.{Follows, Standing, pairIn, engineOf, repeats-agree}
+use Rattle.claims.proofs.Kept.{Follows, Standing, pairIn, engineOf, repeats-agree, last-fits}
 use Rattle.claims.proofs.Follows.{kept, follows-step, follows-from, follows-run, aad-some, header-answer}
 use Rattle.claims.proofs.Accepted.{active-opening}
 use Rattle.claims.proofs.Written.{message-outcome, message-writes-next, seal-end, open-end, end-refused}
@@ -69,15 +70,15 @@ end-unread v e r w out f =
         → (o : Bool) → opening (r .phase) ≡ o → read v r (Call.Final out) .reader ≡ r
     by (Err x) q o is = ap (λ (k : AeadResult). readEnd k (paramsOf v) r .reader) q
     by (Ok n) q true is =
-        absurd (not-passed (verified (paramsOf v) (r .key) (r .nonce) (r .header) (r .body)) n _
+        absurd (not-passed (verified (paramsOf v) (loadedKey r) (loadedNonce r) (r .header) (r .body)) n _
         (open-end v e r w out n q is .outcome-is) f)
     by (Ok n) q false is = absurd (not-passed true n _ (seal-end v e r w out n q is .outcome-is) f)
 
 -- a message is going on, in a direction, under a key and a nonce
 pub record Going (d : Direction) (key nonce : List ℕ) (r : Reader) : Type 0 where
   pub takes : Active d (r .phase)
-  pub key-is : r .key ≡ key
-  pub nonce-is : r .nonce ≡ nonce
+  pub key-is : loadedKey r ≡ key
+  pub nonce-is : loadedNonce r ≡ nonce
 
 takes-header : {d : Direction} {phase : Phase} → Active d phase → (input : List ℕ) → Active d (aadPhase phase input)
 takes-header t [] = t
@@ -124,12 +125,12 @@ module _ (d : Direction) (key nonce : List ℕ) where
       (going-step v e r w c (b .0) g)
 
 -- before the data nothing is given
-pub released-none : (p : Params) (loaded : Bool) (key nonce initial : List ℕ) (phase : Phase) (header body : List ℕ) → body ≡ []
-    → released p (kept loaded key nonce initial phase header body) ≡ []
+pub released-none : (p : Params) (loads : List Load) (initial : List ℕ) (phase : Phase) (header body : List ℕ) → body ≡ []
+    → released p (kept loads initial phase header body) ≡ []
 unfolding released given
-released-none p loaded key nonce initial phase header body e =
-    ap (λ (b : List ℕ). released p (kept loaded key nonce initial phase header b)) e
-    ∙ ap (λ (n : ℕ). given (p .rate) (messageBlock p (plainOf p phase)) (crypt p) n (prepared p key nonce header) [])
+released-none p loads initial phase header body e =
+    ap (λ (b : List ℕ). released p (kept loads initial phase header b)) e
+    ∙ ap (λ (n : ℕ). given (p .rate) (messageBlock p (plainOf p phase)) (crypt p) n (prepared p (lastKey loads) (lastNonce loads) header) [])
     (ready-zero (p .rate) (keep p phase))
 
 -- nothing comes of calls without a buffer
@@ -145,29 +146,29 @@ pub unwritten : (a b : List ℕ) → b ≡ [] → a ≡ a ++ b
 unwritten a b e = sym (append-nil a) ∙ ap (λ (l : List ℕ). a ++ l) (sym e)
 
 -- a header call gives nothing
-released-more : (p : Params) (phase : Phase) (loaded : Bool) (key nonce initial header body : List ℕ) (mac : Mac) (n : ℕ)
-    → Standing p phase loaded key nonce initial header body mac n → (x : ℕ) (input : List ℕ)
-    → released p (readHeader (headerCheck phase) (kept loaded key nonce initial phase header body) (x ∷ input) .reader)
-    ≡ released p (kept loaded key nonce initial phase header body)
-released-more p Uninitialized loaded key nonce initial header body mac n st x input = refl
-released-more p (Init d) loaded key nonce initial header body mac n st x input =
-    released-none p loaded key nonce initial (Aad d) (header ++ (x ∷ input)) body (st .4)
-    ∙ sym (released-none p loaded key nonce initial (Init d) header body (st .4))
-released-more p (Aad d) loaded key nonce initial header body mac n st x input =
-    released-none p loaded key nonce initial (Aad d) (header ++ (x ∷ input)) body (st .4)
-    ∙ sym (released-none p loaded key nonce initial (Aad d) header body (st .4))
-released-more p (Data d) loaded key nonce initial header body mac n st x input = refl
-released-more p (Final d) loaded key nonce initial header body mac n st x input = refl
+released-more : (p : Params) (phase : Phase) (loads : List Load) (initial header body : List ℕ) (mac : Mac) (n : ℕ)
+    → Standing p phase loads initial header body mac n → (x : ℕ) (input : List ℕ)
+    → released p (readHeader (headerCheck phase) (kept loads initial phase header body) (x ∷ input) .reader)
+    ≡ released p (kept loads initial phase header body)
+released-more p Uninitialized loads initial header body mac n st x input = refl
+released-more p (Init d) loads initial header body mac n st x input =
+    released-none p loads initial (Aad d) (header ++ (x ∷ input)) body (st .4)
+    ∙ sym (released-none p loads initial (Init d) header body (st .4))
+released-more p (Aad d) loads initial header body mac n st x input =
+    released-none p loads initial (Aad d) (header ++ (x ∷ input)) body (st .4)
+    ∙ sym (released-none p loads initial (Aad d) header body (st .4))
+released-more p (Data d) loads initial header body mac n st x input = refl
+released-more p (Final d) loads initial header body mac n st x input = refl
 
 released-header : (v : SparkleVariant) (e : SparkleEngine) (r : Reader) → Follows v e r → (input : List ℕ)
     → released (paramsOf v) (read v r (Call.Aad input) .reader) ≡ released (paramsOf v) r
 unfolding read aadCheck
 released-header v e r w [] =
-    ap (λ (l : List ℕ). released (paramsOf v) (kept (r .loaded) (r .key) (r .nonce) (r .initial) (r .phase) l (r .body)))
+    ap (λ (l : List ℕ). released (paramsOf v) (kept (r .loads) (r .initial) (r .phase) l (r .body)))
     (append-nil (r .header))
 released-header v e r w (x ∷ input) =
     ap (λ (k : AeadResult). released (paramsOf v) (readHeader k r (x ∷ input) .reader)) (aad-some (r .phase) (length input))
-    ∙ released-more (paramsOf v) (r .phase) (r .loaded) (r .key) (r .nonce) (r .initial) (r .header) (r .body) (w .mac)
+    ∙ released-more (paramsOf v) (r .phase) (r .loads) (r .initial) (r .header) (r .body) (w .mac)
     (w .count) (w .standing) x input
 
 -- a data call gives what it wrote
@@ -314,8 +315,8 @@ data-taken-from v e r w (c ∷ calls) b =
 -- ---- A start
 
 -- The reader after a start that is taken.
-abbrev pub startedReader : Direction → (key nonce header : List ℕ) → Reader
-startedReader d key nonce header = kept true key nonce header (headerPhase d header) header []
+abbrev pub startedReader : Reader → Direction → (key nonce header : List ℕ) → Reader
+startedReader r d key nonce header = kept (load (r .loads) key nonce) header (headerPhase d header) header []
 
 start-answered : (k : AeadInitResult) (e : SparkleEngine) (d : Direction) (key nonce header : List ℕ)
     → initBy k e d key nonce header .answer ≡ k
@@ -331,39 +332,41 @@ start-outcome v e r w d key nonce size h =
     let p = paramsOf v in
     ap (λ (x : SparkleEngine). startOutcome (init x d key nonce size h .answer)) (w .same-engine)
     ∙ ap startOutcome
-    (start-answered (startCheck v d (length key) (length nonce) size (repeats p (pairIn (r .loaded) (r .key) (r .nonce)) key nonce))
+    (start-answered (startCheck v d (length key) (length nonce) size (repeats p (pairIn (r .loads)) key nonce))
     (engineOf v r (w .mac) (w .count)) d key nonce h)
     ∙ ap (λ (b : Bool). startOutcome (startCheck v d (length key) (length nonce) size b))
-    (repeats-agree p (small v) (r .loaded) (r .key) (r .nonce) (w .fits) key nonce)
+    (repeats-agree p (small v) (r .loads) (w .fits) key nonce)
 
 start-read : (v : SparkleVariant) (e : SparkleEngine) (r : Reader) → Follows v e r
     → (d : Direction) (key nonce : List ℕ) (size : ℕ) (h : List ℕ) (n : ℕ)
     → step e (Call.Init d key nonce size h) .outcome ≡ Outcome.ok n
-    → read v r (Call.Init d key nonce size h) .reader ≡ startedReader d key nonce h
+    → read v r (Call.Init d key nonce size h) .reader ≡ startedReader r d key nonce h
 start-read v e r w d key nonce size h n o =
     by (startCheck v d (length key) (length nonce) size (repeated r key nonce)) refl
   where
     by : (k : AeadInitResult) → startCheck v d (length key) (length nonce) size (repeated r key nonce) ≡ k
-        → read v r (Call.Init d key nonce size h) .reader ≡ startedReader d key nonce h
+        → read v r (Call.Init d key nonce size h) .reader ≡ startedReader r d key nonce h
     by StartOk q = unfold read in ap (λ (k : AeadInitResult). readStart k r d key nonce h .reader) q
     by (StartErr x) q =
         absurd (let s = sym o ∙ start-outcome v e r w d key nonce size h ∙ ap startOutcome q in let z : _≡_ {A = ℕ} 0 1 = cc in omega arith)
 
-started-going : (d : Direction) (key nonce header : List ℕ) → Going d key nonce (startedReader d key nonce header)
-started-going d key nonce [] = record { takes = Active.in-init; key-is = refl; nonce-is = refl }
-started-going d key nonce (x ∷ header) = record { takes = Active.in-aad; key-is = refl; nonce-is = refl }
+started-going : (r : Reader) (d : Direction) (key nonce header : List ℕ)
+    → Going d key nonce (startedReader r d key nonce header)
+started-going r d key nonce [] = record { takes = Active.in-init; key-is = refl; nonce-is = refl }
+started-going r d key nonce (x ∷ header) = record { takes = Active.in-aad; key-is = refl; nonce-is = refl }
 
 -- ---- Whole messages, of what was taken
 
 -- The reader after calls behind a start that is taken.
-abbrev pub lastReader : SparkleVariant → Direction → (key nonce initial : List ℕ) → List Call → Reader
-lastReader v d key nonce initial between = readFrom v (startedReader d key nonce initial) between
+abbrev pub lastReader : SparkleVariant → (before : List Call) → Direction → (key nonce initial : List ℕ) → List Call → Reader
+lastReader v before d key nonce initial between =
+    readFrom v (startedReader (reader v before) d key nonce initial) between
 
 module _ (v : SparkleVariant) (before : List Call) (d : Direction) (key nonce : List ℕ) (size : ℕ) (initial : List ℕ)
     (between : List Call) (out : List ℕ) where
   module _ (k : ℕ) (taken : step (run v before) (Call.Init d key nonce size initial) .outcome ≡ Outcome.ok k)
       (b : AllBetween (startedEngine v before d key nonce size initial) between) where
-    pub start-follows : Follows v (startedEngine v before d key nonce size initial) (startedReader d key nonce initial)
+    pub start-follows : Follows v (startedEngine v before d key nonce size initial) (startedReader (reader v before) d key nonce initial)
     start-follows =
         let w = follows-run v before in
         subst (Follows v (startedEngine v before d key nonce size initial))
@@ -371,27 +374,27 @@ module _ (v : SparkleVariant) (before : List Call) (d : Direction) (key nonce : 
         (follows-step v (run v before) (reader v before) w (Call.Init d key nonce size initial))
 
     pub last-follows : Follows v (runFrom (startedEngine v before d key nonce size initial) between)
-        (lastReader v d key nonce initial between)
+        (lastReader v before d key nonce initial between)
     last-follows =
         follows-from v (startedEngine v before d key nonce size initial)
-        (startedReader d key nonce initial) start-follows between
+        (startedReader (reader v before) d key nonce initial) start-follows between
 
-    pub last-going : Going d key nonce (lastReader v d key nonce initial between)
+    pub last-going : Going d key nonce (lastReader v before d key nonce initial between)
     last-going =
-        going-from d key nonce v (startedEngine v before d key nonce size initial) (startedReader d key nonce initial) start-follows between b
-        (started-going d key nonce initial)
+        going-from d key nonce v (startedEngine v before d key nonce size initial) (startedReader (reader v before) d key nonce initial) start-follows between b
+        (started-going (reader v before) d key nonce initial)
 
-    last-released : released (paramsOf v) (lastReader v d key nonce initial between)
+    last-released : released (paramsOf v) (lastReader v before d key nonce initial between)
         ≡ outputs (startedEngine v before d key nonce size initial) between
     last-released =
         released-from v (startedEngine v before d key nonce size initial)
-        (startedReader d key nonce initial) start-follows between b
+        (startedReader (reader v before) d key nonce initial) start-follows between b
         ∙ ap (λ (l : List ℕ). l ++ outputs (startedEngine v before d key nonce size initial) between)
-        (released-none (paramsOf v) true key nonce initial (headerPhase d initial) initial [] refl)
+        (released-none (paramsOf v) (load (reader v before .loads) key nonce) initial (headerPhase d initial) initial [] refl)
 
     -- the bytes of the whole list
     whole-outputs : outputs (run v before) (Call.Init d key nonce size initial ∷ (between ++ (Call.Final out ∷ [])))
-        ≡ released (paramsOf v) (lastReader v d key nonce initial between) ++ wrote
+        ≡ released (paramsOf v) (lastReader v before d key nonce initial between) ++ wrote
         (step (runFrom (startedEngine v before d key nonce size initial) between) (Call.Final out))
     unfolding outputs step
     whole-outputs =
@@ -426,11 +429,11 @@ pub sealed-taken : (v : SparkleVariant) (before : List Call) (key nonce : List �
     → AllBetween (startedEngine v before Encrypt key nonce size initial) between
     → step (runFrom (startedEngine v before Encrypt key nonce size initial) between) (Call.Final out) .outcome ≡ Outcome.ok n
     → outputs (run v before) (Call.Init Encrypt key nonce size initial ∷ (between ++ (Call.Final out ∷ [])))
-    ≡ seal (paramsOf v) key nonce (lastReader v Encrypt key nonce initial between .header)
-    (lastReader v Encrypt key nonce initial between .body)
+    ≡ seal (paramsOf v) key nonce (lastReader v before Encrypt key nonce initial between .header)
+    (lastReader v before Encrypt key nonce initial between .body)
 sealed-taken v before key nonce size initial between out k n taken b o =
     let p = paramsOf v in
-    let r = lastReader v Encrypt key nonce initial between in
+    let r = lastReader v before Encrypt key nonce initial between in
     let w = last-follows v before Encrypt key nonce size initial between out k taken b in
     let g = last-going v before Encrypt key nonce size initial between out k taken b in
     let c = end-checked v _ r w out n o in
@@ -454,16 +457,16 @@ pub opened-taken : (v : SparkleVariant) (before : List Call) (key nonce : List �
     (k n : ℕ) → step (run v before) (Call.Init Decrypt key nonce size initial) .outcome ≡ Outcome.ok k
     → AllBetween (startedEngine v before Decrypt key nonce size initial) between
     → step (runFrom (startedEngine v before Decrypt key nonce size initial) between) (Call.Final out) .outcome ≡ Outcome.ok n
-    → OpenedTaken v key nonce (lastReader v Decrypt key nonce initial between)
+    → OpenedTaken v key nonce (lastReader v before Decrypt key nonce initial between)
     (outputs (run v before) (Call.Init Decrypt key nonce size initial ∷ (between ++ (Call.Final out ∷ []))))
 opened-taken v before key nonce size initial between out k n taken b o =
     let p = paramsOf v in
-    let r = lastReader v Decrypt key nonce initial between in
+    let r = lastReader v before Decrypt key nonce initial between in
     let w = last-follows v before Decrypt key nonce size initial between out k taken b in
     let g = last-going v before Decrypt key nonce size initial between out k taken b in
     let c = end-checked v _ r w out n o in
     let s = open-end v _ r w out (c .0) (c .1) (active-opening (g .takes)) in
-    let good = cond-ok (verified p (r .key) (r .nonce) (r .header) (r .body)) (c .0) n (sym (s .outcome-is) ∙ o) in
+    let good = cond-ok (verified p (loadedKey r) (loadedNonce r) (r .header) (r .body)) (c .0) n (sym (s .outcome-is) ∙ o) in
     let oks = s .outcome-is ∙ ap (λ (x : Bool). cond x (Outcome.ok (c .0)) (Outcome.no (6 ∷ []))) good in
     record {
       verifies = sym (ap₂ (λ (x y : List ℕ). verified p x y (r .header) (r .body)) (g .key-is) (g .nonce-is)) ∙ good;
@@ -527,7 +530,7 @@ returned-unrefused v before after key nonce size size' initial initial' between 
     let p = paramsOf v in
     let H = initial ++ acceptedHeader (startedEngine v before Encrypt key nonce size initial) between in
     let m = acceptedData (startedEngine v before Encrypt key nonce size initial) between in
-    let kf = start-follows v before Encrypt key nonce size initial between out k st b .fits refl .key-fits in
+    let kf = last-fits p _ (start-follows v before Encrypt key nonce size initial between out k st b .fits) refl .key-fits in
     let packet = de ∙ sealed-unrefused v before key nonce size initial between out k n st b en in
     opened-unrefused v after key nonce size' initial' between' out' k' n' st' b' en' .bytes-are
     ∙ ap₂ (λ (x y : List ℕ). decrypt p key nonce x (bodyOf p y)) he packet

@@ -28,10 +28,11 @@ use Rattle.tc_aead_cipher.specs.Call.{Call}
 use Rattle.tc_sparkle_aead.specs.Sheet.{StepResult, step}
 use Rattle.tc_aead_cipher.specs.Outcome.{Outcome, outcome}
 use Rattle.claims.specs.Refused.{Active}
-use Rattle.claims.specs.Reader.{Reader, readerHeld, inPhase, readMessage, read}
+use Rattle.claims.specs.Reader.{Reader, readerHeld, inPhase, readMessage, read, Load, loadedKey, loadedNonce, lastKey}
+use Rattle.claims.specs.Reader.{lastNonce}
 use Rattle.claims.specs.Messages.{released, Writes, messageOf, EndsWith}
 use Rattle.claims.proofs.Packets.{length-body}
-use Rattle.claims.proofs.Kept.{Follows, Fits, Standing, engineOf, openedMac}
+use Rattle.claims.proofs.Kept.{Follows, Standing, engineOf, openedMac, Remembers, isLoaded}
 use Rattle.claims.proofs.Follows.{kept, inData, active-enough, begin-data, active-loaded, opening-verified}
 use Rattle.claims.proofs.Follows.{seal-engine, open-engine, data-answer, final-answer}
 use Rattle.claims.proofs.Accepted.{data-good, end-good, data-takes, end-takes, EndPassed, released-data, writes}
@@ -41,13 +42,13 @@ use Rattle.claims.proofs.Accepted.{is-open, end-count, active-opening}
 -- What an end past its checks answers and writes: a sealing's, and an opening's, by whether the packet is verified.
 pub record SealEnd (v : SparkleVariant) (r : Reader) (out : List ℕ) (n : ℕ) (left : StepResult) : Type 0 where
   pub outcome-is : left .outcome ≡ Outcome.ok n
-  pub bytes-are : Writes (released (paramsOf v) r) (seal (paramsOf v) (r .key) (r .nonce) (r .header) (r .body)) out
+  pub bytes-are : Writes (released (paramsOf v) r) (seal (paramsOf v) (loadedKey r) (loadedNonce r) (r .header) (r .body)) out
       (left .buffer) n
 
 pub record OpenEnd (v : SparkleVariant) (r : Reader) (out : List ℕ) (n : ℕ) (good : Bool) (left : StepResult) : Type 0 where
   pub outcome-is : left .outcome ≡ cond good (Outcome.ok n) (Outcome.no (6 ∷ []))
   pub good-bytes : good ≡ true
-      → Writes (released (paramsOf v) r) (decrypt (paramsOf v) (r .key) (r .nonce) (r .header)
+      → Writes (released (paramsOf v) r) (decrypt (paramsOf v) (loadedKey r) (loadedNonce r) (r .header)
       (bodyOf (paramsOf v) (r .body))) out (left .buffer) n
   pub bad-bytes : good ≡ false → left .buffer ≡ zeros n ++ drop n out
 
@@ -91,7 +92,7 @@ message-writes-next v e r w input out n o =
     (sym (w .same-engine))
     (subst (λ (k : AeadResult). Writes (released p r) (released p (readMessage k r input .reader)) out (processBytesOut E input out) n) (sym K)
     (subst (λ (k : AeadResult). Writes (released p r) (released p (readMessage (Ok n) r input .reader)) out (dataOutBy k E input out) n) (sym A)
-    (message-writes v (r .loaded) (r .key) (r .nonce) (r .initial) (w .fits) (r .header) (r .body) (w .mac) (w .count) (t .1)
+    (message-writes v (r .loads) (r .initial) (w .fits) (r .header) (r .body) (w .mac) (w .count) (t .1)
     (w .standing) input out n
     (data-good p (r .phase) (readerHeld p r) (length input) (length out) n K))))
 
@@ -102,12 +103,18 @@ unfolding written zeros
 wiped m n out e =
     ap₂ (λ (i j : ℕ). zeros i ++ drop j out) e (length-replicate m 0 ∙ e)
 
-module _ (v : SparkleVariant) (loaded : Bool) (key nonce initial header body : List ℕ) (mac : Mac) (c : ℕ)
-    (f : loaded ≡ true → Fits (paramsOf v) key nonce) (out : List ℕ) (n : ℕ) where
-  sealed-end : {phase : Phase} → Active Encrypt phase → Standing (paramsOf v) phase loaded key nonce initial header body mac c
-      → (b : Bool) → b ≡ false → (e : SparkleEngine) → e ≡ inData v loaded key nonce initial Encrypt header body
-      → EndPassed (paramsOf v) phase (readerHeld (paramsOf v) (kept loaded key nonce initial phase header body)) (length out) n
-      → SealEnd v (kept loaded key nonce initial phase header body) out n
+module _ (v : SparkleVariant) (loads : List Load) (initial header body : List ℕ) (mac : Mac) (c : ℕ)
+    (f : Remembers (paramsOf v) loads) (out : List ℕ) (n : ℕ) where
+  abbrev key : List ℕ
+  key = lastKey loads
+
+  abbrev nonce : List ℕ
+  nonce = lastNonce loads
+
+  sealed-end : {phase : Phase} → Active Encrypt phase → Standing (paramsOf v) phase loads initial header body mac c
+      → (b : Bool) → b ≡ false → (e : SparkleEngine) → e ≡ inData v loads initial Encrypt header body
+      → EndPassed (paramsOf v) phase (readerHeld (paramsOf v) (kept loads initial phase header body)) (length out) n
+      → SealEnd v (kept loads initial phase header body) out n
       (record {
         engine = cond b (openFinal e n) (sealFinal e n) .engine;
         outcome = outcome (cond b (openFinal e n) (sealFinal e n) .answer);
@@ -117,25 +124,25 @@ module _ (v : SparkleVariant) (loaded : Bool) (key nonce initial header body : L
   sealed-end t st true no-open e is ok = absurd (let z : _≡_ {A = ℕ} 0 1 = cc in omega arith)
   sealed-end {phase} t st false no-open e is ok =
       let p = paramsOf v in
-      let l = active-loaded v loaded key nonce initial f t header body mac c st in
+      let l = active-loaded v loads initial f t header body mac c st in
       record {
         outcome-is = refl;
         bytes-are =
-            writes (released p (kept loaded key nonce initial phase header body)) (seal p key nonce header body) out
+            writes (released p (kept loads initial phase header body)) (seal p key nonce header body) out
             (sealLast e ++ sealTag e) n
-            (seal-bytes v loaded key nonce initial f header body mac c l
+            (seal-bytes v loads initial f header body mac c l
             ∙ ap₂ (λ (x : List ℕ) (y : SparkleEngine). x ++ (sealLast y ++ sealTag y))
-            (sym (released-data v loaded key nonce initial f header body mac c t)) (sym is))
-            (ap (λ (y : SparkleEngine). length (sealLast y ++ sealTag y)) is ∙ seal-length v loaded key nonce initial f header body mac c l
-            ∙ sym (end-count v loaded key nonce initial f header body mac c t st out n ok))
+            (sym (released-data v loads initial f header body mac c t)) (sym is))
+            (ap (λ (y : SparkleEngine). length (sealLast y ++ sealTag y)) is ∙ seal-length v loads initial f header body mac c l
+            ∙ sym (end-count v loads initial f header body mac c t st out n ok))
             (ok .fits);
       }
 
-  opened-end : {phase : Phase} → Active Decrypt phase → Standing (paramsOf v) phase loaded key nonce initial header body mac c
-      → (b : Bool) → b ≡ true → (e : SparkleEngine) → e ≡ inData v loaded key nonce initial Decrypt header body
+  opened-end : {phase : Phase} → Active Decrypt phase → Standing (paramsOf v) phase loads initial header body mac c
+      → (b : Bool) → b ≡ true → (e : SparkleEngine) → e ≡ inData v loads initial Decrypt header body
       → paramsOf v .key ≤ length body
-      → EndPassed (paramsOf v) phase (readerHeld (paramsOf v) (kept loaded key nonce initial phase header body)) (length out) n
-      → OpenEnd v (kept loaded key nonce initial phase header body) out n (verified (paramsOf v) key nonce header body)
+      → EndPassed (paramsOf v) phase (readerHeld (paramsOf v) (kept loads initial phase header body)) (length out) n
+      → OpenEnd v (kept loads initial phase header body) out n (verified (paramsOf v) key nonce header body)
       (record {
         engine = cond b (openFinal e n) (sealFinal e n) .engine;
         outcome = outcome (cond b (openFinal e n) (sealFinal e n) .answer);
@@ -145,34 +152,34 @@ module _ (v : SparkleVariant) (loaded : Bool) (key nonce initial header body : L
   opened-end t st false is-opening e is enough ok = absurd (let z : _≡_ {A = ℕ} 0 1 = cc in omega arith)
   opened-end {phase} t st true is-opening e is enough ok =
       let p = paramsOf v in
-      let l = active-loaded v loaded key nonce initial f t header body mac c st in
-      subst (λ (g : Bool). OpenEnd v (kept loaded key nonce initial phase header body) out n
+      let l = active-loaded v loads initial f t header body mac c st in
+      subst (λ (g : Bool). OpenEnd v (kept loads initial phase header body) out n
       (verified p key nonce header body)
       (record { engine = openFinalBy g e n .engine; outcome = outcome (openFinalBy g e n .answer); buffer = written (openEndOut g e) out }))
-      (sym (ap (λ (y : SparkleEngine). same (receivedTag y) (openTag y)) is ∙ opening-verified v loaded key nonce initial f l header body enough))
+      (sym (ap (λ (y : SparkleEngine). same (receivedTag y) (openTag y)) is ∙ opening-verified v loads initial f l header body enough))
       (by l (verified p key nonce header body))
     where
-      by : loaded ≡ true → (g : Bool) → OpenEnd v (kept loaded key nonce initial phase header body) out n g
+      by : isLoaded loads ≡ true → (g : Bool) → OpenEnd v (kept loads initial phase header body) out n g
           (record { engine = openFinalBy g e n .engine; outcome = outcome (openFinalBy g e n .answer); buffer = written (openEndOut g e) out })
       by l true =
           let p = paramsOf v in
           record {
             outcome-is = refl;
             good-bytes = λ _.
-                writes (released p (kept loaded key nonce initial phase header body))
+                writes (released p (kept loads initial phase header body))
                 (decrypt p key nonce header (bodyOf p body)) out (openLast e) n
-                (open-bytes v loaded key nonce initial f header body mac c l enough
+                (open-bytes v loads initial f header body mac c l enough
                 ∙ ap₂ (λ (x : List ℕ) (y : SparkleEngine). x ++ openLast y)
-                (sym (released-data v loaded key nonce initial f header body mac c t)) (sym is))
-                (ap (λ (y : SparkleEngine). length (openLast y)) is ∙ last-length v loaded key nonce initial f header body mac c l enough
-                ∙ sym (end-count v loaded key nonce initial f header body mac c t st out n ok))
+                (sym (released-data v loads initial f header body mac c t)) (sym is))
+                (ap (λ (y : SparkleEngine). length (openLast y)) is ∙ last-length v loads initial f header body mac c l enough
+                ∙ sym (end-count v loads initial f header body mac c t st out n ok))
                 (ok .fits);
             bad-bytes = λ b. absurd (let z : _≡_ {A = ℕ} 0 1 = cc in omega arith);
           }
       by l false =
           let m : length (openBlock e) ≡ n =
-          ap (λ (y : SparkleEngine). length (openBlock y)) is ∙ open-length v loaded key nonce initial f header body mac c l enough
-          ∙ sym (end-count v loaded key nonce initial f header body mac c t st out n ok) in
+          ap (λ (y : SparkleEngine). length (openBlock y)) is ∙ open-length v loads initial f header body mac c l enough
+          ∙ sym (end-count v loads initial f header body mac c t st out n ok) in
           record {
             outcome-is = refl;
             good-bytes = λ b. absurd (let z : _≡_ {A = ℕ} 0 1 = cc in omega arith);
@@ -180,8 +187,8 @@ module _ (v : SparkleVariant) (loaded : Bool) (key nonce initial header body : L
           }
 
 -- the results of a step
-module _ (v : SparkleVariant) (r : Reader) (mac : Mac) (c : ℕ) (f : r .loaded ≡ true → Fits (paramsOf v) (r .key) (r .nonce))
-    (st : Standing (paramsOf v) (r .phase) (r .loaded) (r .key) (r .nonce) (r .initial) (r .header) (r .body) mac c)
+module _ (v : SparkleVariant) (r : Reader) (mac : Mac) (c : ℕ) (f : Remembers (paramsOf v) (r .loads))
+    (st : Standing (paramsOf v) (r .phase) (r .loads) (r .initial) (r .header) (r .body) mac c)
     (out : List ℕ) (n : ℕ) (passed : endCheck (paramsOf v) (r .phase) (readerHeld (paramsOf v) r) (length out) ≡ Ok n) where
   -- the step of an end past its checks
   abbrev leftBy : AeadResult → StepResult
@@ -203,55 +210,55 @@ module _ (v : SparkleVariant) (r : Reader) (mac : Mac) (c : ℕ) (f : r .loaded 
 
   module _ {d : Direction} (t : Active d (r .phase)) where
     direction : opening (engineOf v r mac c .current .phase) ≡ opens d
-    direction = is-open v (r .loaded) (r .key) (r .nonce) (r .initial) f (r .header) (r .body) mac c t st out n good
+    direction = is-open v (r .loads) (r .initial) f (r .header) (r .body) mac c t st out n good
 
-    begins : beginData (engineOf v r mac c) ≡ inData v (r .loaded) (r .key) (r .nonce) (r .initial) d (r .header) (r .body)
-    begins = begin-data v (r .loaded) (r .key) (r .nonce) (r .initial) f t (r .header) (r .body) mac c st
+    begins : beginData (engineOf v r mac c) ≡ inData v (r .loads) (r .initial) d (r .header) (r .body)
+    begins = begin-data v (r .loads) (r .initial) f t (r .header) (r .body) mac c st
 
-    was-loaded : r .loaded ≡ true
-    was-loaded = active-loaded v (r .loaded) (r .key) (r .nonce) (r .initial) f t (r .header) (r .body) mac c st
+    was-loaded : isLoaded (r .loads) ≡ true
+    was-loaded = active-loaded v (r .loads) (r .initial) f t (r .header) (r .body) mac c st
 
   enough : Active Decrypt (r .phase) → paramsOf v .key ≤ length (r .body)
-  enough t = active-enough (paramsOf v) (sizes v) t (r .key) (r .nonce) (r .header) (r .body) (length out) n passed
+  enough t = active-enough (paramsOf v) (sizes v) t (r .body) (length out) n passed
 
   seal-step : Active Encrypt (r .phase) → SealEnd v r out n (step (engineOf v r mac c) (Call.Final out))
   seal-step t =
       subst (SealEnd v r out n) (sym step-is)
-      (sealed-end v (r .loaded) (r .key) (r .nonce) (r .initial) (r .header) (r .body) mac c f out n t st
+      (sealed-end v (r .loads) (r .initial) (r .header) (r .body) mac c f out n t st
       (opening (engineOf v r mac c .current .phase)) (direction t) (beginData (engineOf v r mac c)) (begins t) good)
 
   open-step : Active Decrypt (r .phase)
-      → OpenEnd v r out n (verified (paramsOf v) (r .key) (r .nonce) (r .header) (r .body))
+      → OpenEnd v r out n (verified (paramsOf v) (loadedKey r) (loadedNonce r) (r .header) (r .body))
       (step (engineOf v r mac c) (Call.Final out))
   open-step t =
-      subst (OpenEnd v r out n (verified (paramsOf v) (r .key) (r .nonce) (r .header) (r .body))) (sym step-is)
-      (opened-end v (r .loaded) (r .key) (r .nonce) (r .initial) (r .header) (r .body) mac c f out n t st
+      subst (OpenEnd v r out n (verified (paramsOf v) (loadedKey r) (loadedNonce r) (r .header) (r .body))) (sym step-is)
+      (opened-end v (r .loads) (r .initial) (r .header) (r .body) mac c f out n t st
       (opening (engineOf v r mac c .current .phase)) (direction t) (beginData (engineOf v r mac c)) (begins t) (enough t) good)
 
   -- the engine afterwards
   seal-engine-step : Active Encrypt (r .phase)
       → step (engineOf v r mac c) (Call.Final out) .engine
       ≡ engineOf v (inPhase r (Final Encrypt) (r .header) (r .body))
-      (readable (tag (paramsOf v) (r .key) (r .nonce) (r .header) (r .body)))
+      (readable (tag (paramsOf v) (loadedKey r) (loadedNonce r) (r .header) (r .body)))
       (steps (paramsOf v) (length (r .header)) (length (r .body)) % 2 ^ 64)
   seal-engine-step t =
       let e = beginData (engineOf v r mac c) in
       ap (λ (x : StepResult). x .engine) step-is
       ∙ ap (λ (b : Bool). cond b (openFinal e n) (sealFinal e n) .engine) (direction t)
       ∙ ap (λ (y : SparkleEngine). sealFinal y n .engine) (begins t)
-      ∙ seal-engine v (r .loaded) (r .key) (r .nonce) (r .initial) f (was-loaded t) (r .header) (r .body) n
+      ∙ seal-engine v (r .loads) (r .initial) f (was-loaded t) (r .header) (r .body) n
 
   open-engine-step : Active Decrypt (r .phase)
       → step (engineOf v r mac c) (Call.Final out) .engine
       ≡ engineOf v (inPhase r (Final Decrypt) (r .header) (r .body))
-      (openedMac (paramsOf v) (r .key) (r .nonce) (r .header) (r .body))
+      (openedMac (paramsOf v) (loadedKey r) (loadedNonce r) (r .header) (r .body))
       (steps (paramsOf v) (length (r .header)) (length (r .body) - paramsOf v .key) % 2 ^ 64)
   open-engine-step t =
       let e = beginData (engineOf v r mac c) in
       ap (λ (x : StepResult). x .engine) step-is
       ∙ ap (λ (b : Bool). cond b (openFinal e n) (sealFinal e n) .engine) (direction t)
       ∙ ap (λ (y : SparkleEngine). openFinal y n .engine) (begins t)
-      ∙ open-engine v (r .loaded) (r .key) (r .nonce) (r .initial) f (was-loaded t) (r .header) (r .body) (enough t) n
+      ∙ open-engine v (r .loads) (r .initial) f (was-loaded t) (r .header) (r .body) (enough t) n
 
 mac-shown : (good : Bool) (t : List ℕ) (e : SparkleEngine) → e .mac ≡ cond good (readable t) noMac → macOf e
     ≡ cond good (readable t) noMac
@@ -263,14 +270,14 @@ module _ (v : SparkleVariant) (r : Reader) (e : SparkleEngine) where
   ended-sealing : opening (r .phase) ≡ false
       → e
       ≡ engineOf v (inPhase r (Final Encrypt) (r .header) (r .body))
-      (readable (tag (paramsOf v) (r .key) (r .nonce) (r .header) (r .body)))
+      (readable (tag (paramsOf v) (loadedKey r) (loadedNonce r) (r .header) (r .body)))
       (steps (paramsOf v) (length (r .header)) (length (r .body)) % 2 ^ 64)
-      → EndsWith v r (cond (opening (r .phase)) (verified (paramsOf v) (r .key) (r .nonce) (r .header) (r .body)) true) e
+      → EndsWith v r (cond (opening (r .phase)) (verified (paramsOf v) (loadedKey r) (loadedNonce r) (r .header) (r .body)) true) e
   unfolding messageOf stepsNow
   ended-sealing b is =
       record {
         mac-is =
-            rw b (mac-shown true (tag (paramsOf v) (r .key) (r .nonce) (r .header) (r .body)) e
+            rw b (mac-shown true (tag (paramsOf v) (loadedKey r) (loadedNonce r) (r .header) (r .body)) e
             (ap (λ (x : SparkleEngine). x .mac) is));
         steps-are = rw b (ap (λ (x : SparkleEngine). x .steps .current) is);
       }
@@ -278,9 +285,9 @@ module _ (v : SparkleVariant) (r : Reader) (e : SparkleEngine) where
   ended-opening : opening (r .phase) ≡ true → paramsOf v .key ≤ length (r .body)
       → e
       ≡ engineOf v (inPhase r (Final Decrypt) (r .header) (r .body))
-      (openedMac (paramsOf v) (r .key) (r .nonce) (r .header) (r .body))
+      (openedMac (paramsOf v) (loadedKey r) (loadedNonce r) (r .header) (r .body))
       (steps (paramsOf v) (length (r .header)) (length (r .body) - paramsOf v .key) % 2 ^ 64)
-      → EndsWith v r (cond (opening (r .phase)) (verified (paramsOf v) (r .key) (r .nonce) (r .header) (r .body)) true) e
+      → EndsWith v r (cond (opening (r .phase)) (verified (paramsOf v) (loadedKey r) (loadedNonce r) (r .header) (r .body)) true) e
   unfolding messageOf stepsNow openedMac
   ended-opening b enough is =
       let p = paramsOf v in
@@ -288,14 +295,14 @@ module _ (v : SparkleVariant) (r : Reader) (e : SparkleEngine) where
       record {
         mac-is =
             rw b
-            (mac-shown (verified p (r .key) (r .nonce) (r .header) (r .body))
-            (tag p (r .key) (r .nonce) (r .header) (decrypt p (r .key) (r .nonce) (r .header) c)) e
+            (mac-shown (verified p (loadedKey r) (loadedNonce r) (r .header) (r .body))
+            (tag p (loadedKey r) (loadedNonce r) (r .header) (decrypt p (loadedKey r) (loadedNonce r) (r .header) c)) e
             (ap (λ (x : SparkleEngine). x .mac) is));
         steps-are =
             rw b
             (ap (λ (x : SparkleEngine). x .steps .current) is
             ∙ ap (λ (k : ℕ). steps p (length (r .header)) k % 2 ^ 64)
-            (sym (length-decrypt p (sizes v) (r .key) (r .nonce) (r .header) c ∙ length-body p (r .body) enough)));
+            (sym (length-decrypt p (sizes v) (loadedKey r) (loadedNonce r) (r .header) c ∙ length-body p (r .body) enough)));
       }
 
 -- an end past its checks, on an engine that follows the reader
@@ -312,15 +319,15 @@ seal-end v e r w out n passed no-open =
 
 pub open-end : (v : SparkleVariant) (e : SparkleEngine) (r : Reader) → Follows v e r → (out : List ℕ) (n : ℕ)
     → endCheck (paramsOf v) (r .phase) (readerHeld (paramsOf v) r) (length out) ≡ Ok n → opening (r .phase) ≡ true
-    → OpenEnd v r out n (verified (paramsOf v) (r .key) (r .nonce) (r .header) (r .body)) (step e (Call.Final out))
+    → OpenEnd v r out n (verified (paramsOf v) (loadedKey r) (loadedNonce r) (r .header) (r .body)) (step e (Call.Final out))
 open-end v e r w out n passed is-opening =
-    subst (λ (x : SparkleEngine). OpenEnd v r out n (verified (paramsOf v) (r .key) (r .nonce) (r .header) (r .body))
+    subst (λ (x : SparkleEngine). OpenEnd v r out n (verified (paramsOf v) (loadedKey r) (loadedNonce r) (r .header) (r .body))
     (step x (Call.Final out)))
     (sym (w .same-engine))
     (let t = end-takes (paramsOf v) (r .phase) (readerHeld (paramsOf v) r) (length out) n passed in by (t .0) (t .1))
   where
     by : (d : Direction) → Active d (r .phase)
-        → OpenEnd v r out n (verified (paramsOf v) (r .key) (r .nonce) (r .header) (r .body))
+        → OpenEnd v r out n (verified (paramsOf v) (loadedKey r) (loadedNonce r) (r .header) (r .body))
         (step (engineOf v r (w .mac) (w .count)) (Call.Final out))
     by Encrypt t = absurd (let o = active-opening t in let z : _≡_ {A = ℕ} 0 1 = cc in omega arith)
     by Decrypt t = open-step v r (w .mac) (w .count) (w .fits) (w .standing) out n passed t
@@ -341,14 +348,14 @@ end-refused v e r w out x h =
 
 pub end-ended : (v : SparkleVariant) (e : SparkleEngine) (r : Reader) → Follows v e r → (out : List ℕ) (n : ℕ)
     → endCheck (paramsOf v) (r .phase) (readerHeld (paramsOf v) r) (length out) ≡ Ok n
-    → EndsWith v r (cond (opening (r .phase)) (verified (paramsOf v) (r .key) (r .nonce) (r .header) (r .body)) true)
+    → EndsWith v r (cond (opening (r .phase)) (verified (paramsOf v) (loadedKey r) (loadedNonce r) (r .header) (r .body)) true)
     (step e (Call.Final out) .engine)
 end-ended v e r w out n passed =
     subst (λ (x : SparkleEngine). EndsWith v r good (step x (Call.Final out) .engine)) (sym (w .same-engine))
     (let t = end-takes (paramsOf v) (r .phase) (readerHeld (paramsOf v) r) (length out) n passed in by (t .0) (t .1))
   where
     good : Bool
-    good = cond (opening (r .phase)) (verified (paramsOf v) (r .key) (r .nonce) (r .header) (r .body)) true
+    good = cond (opening (r .phase)) (verified (paramsOf v) (loadedKey r) (loadedNonce r) (r .header) (r .body)) true
 
     by : (d : Direction) → Active d (r .phase)
         → EndsWith v r good (step (engineOf v r (w .mac) (w .count)) (Call.Final out) .engine)
@@ -357,5 +364,5 @@ end-ended v e r w out n passed =
         (w .standing) out n passed t)
     by Decrypt t =
         ended-opening v r _ (active-opening t)
-        (active-enough (paramsOf v) (sizes v) t (r .key) (r .nonce) (r .header) (r .body) (length out) n passed)
+        (active-enough (paramsOf v) (sizes v) t (r .body) (length out) n passed)
         (open-engine-step v r (w .mac) (w .count) (w .fits) (w .standing) out n passed t)

@@ -22,7 +22,7 @@ use Rattle.tc_sparkle_aead.specs.Calls.{macOf, stepsNow}
 use Rattle.tc_aead_cipher.specs.Call.{Call}
 use Rattle.tc_aead_cipher.specs.Outcome.{Outcome, outcome, startOutcome}
 use Rattle.tc_sparkle_aead.specs.Sheet.{StepResult, step, runFrom, run}
-use Rattle.claims.specs.Reader.{Reader, readerHeld, repeated, read}
+use Rattle.claims.specs.Reader.{Reader, loadedKey, loadedNonce, readerHeld, repeated, read}
 
 -- ---- Lists of calls
 
@@ -248,7 +248,7 @@ answerOf v r (Call.Data input out) =
 answerOf v r (Call.Final out) =
     let p = paramsOf v in
     endOutcome (endCheck p (r .phase) (readerHeld p r) (length out)) (opening (r .phase))
-    (verified p (r .key) (r .nonce) (r .header) (r .body))
+    (verified p (loadedKey r) (loadedNonce r) (r .header) (r .body))
 answerOf v r Call.Reset = Outcome.ok 0
 answerOf v r Call.Mac = Outcome.ok 0
 answerOf v r (Call.Update n) = let p = paramsOf v in outcome (updateLen p (r .phase) (readerHeld p r) n)
@@ -261,7 +261,7 @@ unfoldable pub released : Params → Reader → List ℕ
 released p r =
     given (p .rate) (messageBlock p (plainOf p (r .phase))) (crypt p)
     (ready (p .rate) (keep p (r .phase)) (length (r .body)))
-    (prepared p (r .key) (r .nonce) (r .header)) (r .body)
+    (prepared p (loadedKey r) (loadedNonce r) (r .header)) (r .body)
 
 -- A call that takes the bytes so far, `before`, to `after`, by the n bytes that it writes into the buffer that was lent as
 -- `out`; the rest of the buffer is as lent.
@@ -296,17 +296,17 @@ UnderWay (Final d) = ⊥
 -- The bytes of a whole message: sealing, the packet; opening, what the packet decrypts to.
 unfoldable pub finishedBytes : Params → Reader → List ℕ
 finishedBytes p r =
-    cond (opening (r .phase)) (decrypt p (r .key) (r .nonce) (r .header) (bodyOf p (r .body)))
-    (seal p (r .key) (r .nonce) (r .header) (r .body))
+    cond (opening (r .phase)) (decrypt p (loadedKey r) (loadedNonce r) (r .header) (bodyOf p (r .body)))
+    (seal p (loadedKey r) (loadedNonce r) (r .header) (r .body))
 
 -- The message of the data so far.
 unfoldable pub messageOf : Params → Reader → List ℕ
-messageOf p r = cond (opening (r .phase)) (decrypt p (r .key) (r .nonce) (r .header) (bodyOf p (r .body))) (r .body)
+messageOf p r = cond (opening (r .phase)) (decrypt p (loadedKey r) (loadedNonce r) (r .header) (bodyOf p (r .body))) (r .body)
 
 -- An opening's end past its checks answers its count exactly when the packet is verified, and 6 exactly when it is not.
 pub record OpenEndExact (v : SparkleVariant) (r : Reader) (n : ℕ) (o : Outcome) : Type 0 where
-  pub accepted : (o ≡ Outcome.ok n) ↔ (verified (paramsOf v) (r .key) (r .nonce) (r .header) (r .body) ≡ true)
-  pub refused : (o ≡ Outcome.no (6 ∷ [])) ↔ (verified (paramsOf v) (r .key) (r .nonce) (r .header) (r .body) ≡ false)
+  pub accepted : (o ≡ Outcome.ok n) ↔ (verified (paramsOf v) (loadedKey r) (loadedNonce r) (r .header) (r .body) ≡ true)
+  pub refused : (o ≡ Outcome.no (6 ∷ [])) ↔ (verified (paramsOf v) (loadedKey r) (loadedNonce r) (r .header) (r .body) ≡ false)
 
 -- Whether a tag can be read after a call, from what the reader kept before it. An end that is taken makes it readable,
 -- unless an opening's packet is not verified; a start and a reset drop it; no other call changes it.
@@ -322,7 +322,7 @@ shownAfter v r before (Call.Data input out) = before
 shownAfter v r before (Call.Final out) =
     let p = paramsOf v in
     shownByEnd (endCheck p (r .phase) (readerHeld p r) (length out)) (opening (r .phase))
-    (verified p (r .key) (r .nonce) (r .header) (r .body)) before
+    (verified p (loadedKey r) (loadedNonce r) (r .header) (r .body)) before
 shownAfter v r before Call.Reset = false
 shownAfter v r before Call.Mac = before
 shownAfter v r before (Call.Update n) = before
@@ -338,7 +338,7 @@ shownTags v r before (c ∷ calls) =
 -- decrypts to.
 pub record EndsWith (v : SparkleVariant) (r : Reader) (good : Bool) (e : SparkleEngine) : Type 0 where
   pub mac-is : macOf e
-      ≡ cond good (readable (tag (paramsOf v) (r .key) (r .nonce) (r .header) (messageOf (paramsOf v) r))) noMac
+      ≡ cond good (readable (tag (paramsOf v) (loadedKey r) (loadedNonce r) (r .header) (messageOf (paramsOf v) r))) noMac
   pub steps-are : stepsNow e ≡ steps (paramsOf v) (length (r .header)) (length (messageOf (paramsOf v) r)) % 2 ^ 64
 
 -- Not in Final.

@@ -1,9 +1,9 @@
 -- The plain reader of document 01, "Two lists, two sheets": it is fed the variant and the calls' arguments, no answers and
 -- nothing of the engine, and notes a verdict at each call. It shares the tables of checks with the engine.
 use Prim.Native.Nat.{ℕ, _-_, _*_}
-use mathlib.Core.Bool.{Bool, true, false, cond}
+use mathlib.Core.Bool.{Bool, true, false, _&&_, _||_}
 use mathlib.Core.List.{List, [], _∷_, _++_}
-use lib.ListN.{length}
+use lib.ListN.{length, take}
 use Rattle.schwaemm.specs.Bytes.{same}
 use Rattle.schwaemm.specs.Blocks.{ready}
 use Rattle.schwaemm.specs.Schwaemm.{Params, verified}
@@ -31,19 +31,53 @@ abbrev pub verdictOf : Bool → Verdict
 verdictOf true = Yes
 verdictOf false = No
 
--- What the reader keeps: the phase, the last loaded pair (none at first) and, in full, the initial header, the header and
--- the data.
-pub record Reader : Type 0 where
-  pub phase : Phase
-  pub loaded : Bool
+-- A load: the key and the nonce of a start that was not refused.
+pub record Load : Type 0 where
   pub key : List ℕ
   pub nonce : List ℕ
+
+-- What the reader keeps: the phase, "the last loaded pair (none at first)" and, in full, the initial header, the header and
+-- the data. What is loaded is a list of loads, the last one first.
+pub record Reader : Type 0 where
+  pub phase : Phase
+  pub loads : List Load
   pub initial : List ℕ
   pub header : List ℕ
   pub body : List ℕ
 
 abbrev pub newReader : Reader
-newReader = record { phase = Uninitialized; loaded = false; key = []; nonce = []; initial = []; header = []; body = [] }
+newReader = record { phase = Uninitialized; loads = []; initial = []; header = []; body = [] }
+
+-- How many loads are kept: document 01's last loaded pair; and what is kept after one more.
+abbrev pub remembered : ℕ
+remembered = 1
+
+abbrev pub load : List Load → (key nonce : List ℕ) → List Load
+load loads key nonce = take remembered (record { key = key; nonce = nonce } ∷ loads)
+
+-- Key and nonce of the last load; empty where there is none.
+abbrev pub lastKey : List Load → List ℕ
+lastKey [] = []
+lastKey (l ∷ loads) = l .key
+
+abbrev pub lastNonce : List Load → List ℕ
+lastNonce [] = []
+lastNonce (l ∷ loads) = l .nonce
+
+-- Whether a pair equals one of the loads.
+abbrev pub among : List Load → (key nonce : List ℕ) → Bool
+among [] key nonce = false
+among (l ∷ loads) key nonce = same (l .key) key && same (l .nonce) nonce || among loads key nonce
+
+-- Of a reader: whether a pair equals the last loaded, and the loaded pair.
+abbrev pub repeated : Reader → (key nonce : List ℕ) → Bool
+repeated r key nonce = among (r .loads) key nonce
+
+abbrev pub loadedKey : Reader → List ℕ
+loadedKey r = lastKey (r .loads)
+
+abbrev pub loadedNonce : Reader → List ℕ
+loadedNonce r = lastNonce (r .loads)
 
 -- The verdict at a call and the reader afterwards.
 pub record ReadResult : Type 0 where
@@ -56,20 +90,11 @@ nothing r = record { verdict = None; reader = r }
 -- The same reader in another phase, with another header and other data.
 abbrev pub inPhase : Reader → Phase → List ℕ → List ℕ → Reader
 inPhase r phase header body =
-    record {
-      phase = phase;
-      loaded = r .loaded;
-      key = r .key;
-      nonce = r .nonce;
-      initial = r .initial;
-      header = header;
-      body = body;
-    }
+    record { phase = phase; loads = r .loads; initial = r .initial; header = header; body = body }
 
 -- Of what is kept, only the last loaded pair.
 abbrev pub forgotten : Reader → Reader
-forgotten r =
-    record { phase = Uninitialized; loaded = r .loaded; key = r .key; nonce = r .nonce; initial = []; header = []; body = [] }
+forgotten r = record { phase = Uninitialized; loads = r .loads; initial = []; header = []; body = [] }
 
 -- The phase of a message with a header, before its data.
 abbrev pub headerPhase : Direction → List ℕ → Phase
@@ -80,10 +105,6 @@ headerPhase d (x ∷ header) = Aad d
 abbrev pub readerHeld : Params → Reader → ℕ
 readerHeld p r =
     length (r .body) - ready (p .rate) (keep p (r .phase)) (length (r .body)) * p .rate
-
--- Whether a pair equals the last loaded.
-abbrev pub repeated : Reader → List ℕ → List ℕ → Bool
-repeated r key nonce = cond (r .loaded) (cond (same (r .key) key) (same (r .nonce) nonce) false) false
 
 -- An init past its size checks, if sealing, notes whether its pair equals the last loaded.
 abbrev pub startVerdict : Direction → Bool → Verdict
@@ -106,9 +127,7 @@ readStart StartOk r d key nonce h =
       reader =
           record {
             phase = headerPhase d h;
-            loaded = true;
-            key = key;
-            nonce = nonce;
+            loads = load (r .loads) key nonce;
             initial = h;
             header = h;
             body = [];
@@ -146,7 +165,7 @@ abbrev pub endBy : Direction → Params → Reader → ReadResult
 endBy Encrypt p r = nothing (inPhase r (Final Encrypt) (r .header) (r .body))
 endBy Decrypt p r =
     record {
-      verdict = verdictOf (verified p (r .key) (r .nonce) (r .header) (r .body));
+      verdict = verdictOf (verified p (loadedKey r) (loadedNonce r) (r .header) (r .body));
       reader = inPhase r (Final Decrypt) (r .header) (r .body);
     }
 

@@ -71,6 +71,11 @@ abbrev pub outputSum : Direction → Params → ℕ → ℕ
 outputSum Encrypt p sum = sum + p .key
 outputSum Decrypt p sum = sum
 
+-- A key and a nonce are the last loaded pair: one is loaded, and its bytes are these.
+abbrev pub Repeats : SparkleEngine → (key nonce : List ℕ) → Type 0
+Repeats e key nonce =
+    (e .pair .loaded ≡ true) × (take (keyOf e) (e .pair .key) ≡ key) × (take (rateOf e) (e .pair .nonce) ≡ nonce)
+
 -- When a call is refused, with which number and values: the lines of document 01's two tables, each with the checks
 -- before it passed.
 pub data Refused (e : SparkleEngine) : Call → List ℕ → Type 0 where
@@ -109,8 +114,7 @@ pub data Refused (e : SparkleEngine) : Call → List ℕ → Type 0 where
       → Refused e (Call.Data input out) (10 ∷ [])
   end-finalized : {d : Direction} {out : List ℕ} → e .current .phase ≡ Final d → Refused e (Call.Final out) (10 ∷ [])
   nonce-reuse : {key nonce header : List ℕ} {size : ℕ} → length key ≡ keyOf e → length nonce ≡ rateOf e → size ≡ keyOf e
-      → e .pair .loaded ≡ true → take (keyOf e) (e .pair .key) ≡ key → take (rateOf e) (e .pair .nonce) ≡ nonce
-      → Refused e (Call.Init Encrypt key nonce size header) (11 ∷ [])
+      → Repeats e key nonce → Refused e (Call.Init Encrypt key nonce size header) (11 ∷ [])
 
 -- ---- What a number leaves
 
