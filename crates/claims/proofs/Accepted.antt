@@ -33,11 +33,11 @@ use Rattle.claims.specs.Refused.{Active}
 use Rattle.claims.specs.Reader.{Reader, readerHeld, dataPhase, Load, lastKey, lastNonce}
 use Rattle.claims.specs.Messages.{released, Writes}
 use Rattle.claims.proofs.Points.{held-nil, blockPoint}
-use Rattle.claims.proofs.Packets.{packet-given}
-use Rattle.claims.proofs.Kept.{Standing, engineOf, dataPoint, pointIn, then-good, holds-data, state-data, Remembers}
-use Rattle.claims.proofs.Kept.{isLoaded, last-fits, data-given, phase-agrees}
-use Rattle.claims.proofs.Follows.{kept, inData, begin-data, sealing-state, sealing-block, sealing-tag, opening-block}
-use Rattle.claims.proofs.Follows.{opening-last}
+use Rattle.claims.proofs.OpeningEnd.{packet-given}
+use Rattle.claims.proofs.Invariant.{PhaseInvariant, engineOf, dataPoint, pointIn, then-good, holds-data, state-data}
+use Rattle.claims.proofs.Invariant.{LoadsFit, isLoaded, last-fits, data-given, phase-agrees}
+use Rattle.claims.proofs.InvariantKept.{readerOf, inData, begin-data, sealing-state, sealing-block, sealing-tag}
+use Rattle.claims.proofs.InvariantKept.{opening-block, opening-last}
 
 -- ---- What passed checks say
 
@@ -105,17 +105,17 @@ phase-active (Aad d) k e = (d, Active.in-aad)
 phase-active (Data d) k e = (d, Active.in-data)
 phase-active (Final d) k e = absurd (let z : _≡_ {A = ℕ} 0 1 = cc in omega arith)
 
-pub data-takes : (p : Params) (phase : Phase) (held k a n : ℕ) → dataCheck p phase held k a ≡ Ok n
+pub data-passed-active : (p : Params) (phase : Phase) (held k a n : ℕ) → dataCheck p phase held k a ≡ Ok n
     → (d : Direction) × Active d phase
 unfolding dataCheck
-data-takes p phase held k a n e =
+data-passed-active p phase held k a n e =
     let s1 = then-good (phaseCheck phase) (λ _. then (updateLen p phase held k) (room a)) n e in
     phase-active phase (s1 .0) (s1 .1)
 
-pub end-takes : (p : Params) (phase : Phase) (held a n : ℕ) → endCheck p phase held a ≡ Ok n
+pub end-passed-active : (p : Params) (phase : Phase) (held a n : ℕ) → endCheck p phase held a ≡ Ok n
     → (d : Direction) × Active d phase
 unfolding endCheck
-end-takes p phase held a n e =
+end-passed-active p phase held a n e =
     let s1 = then-good (phaseCheck phase) (λ _. then (then (totalLen p phase held 0) (room a)) (whole p phase held)) n e in
     phase-active phase (s1 .0) (s1 .1)
 
@@ -160,17 +160,17 @@ module _ (v : SparkleVariant) where
     nonce = lastNonce loads
 
     -- the reader by its other parts, and the engine in its data
-    abbrev keeps : Phase → (header body : List ℕ) → Reader
-    keeps phase header body = kept loads initial phase header body
+    abbrev readerIn : Phase → (header body : List ℕ) → Reader
+    readerIn phase header body = readerOf loads initial phase header body
 
     abbrev dataEngine : Direction → (header body : List ℕ) → SparkleEngine
     dataEngine d header body = inData v loads initial d header body
 
-    module _ (f : Remembers p loads) (header body : List ℕ) (mac : Mac) (n : ℕ) where
+    module _ (f : LoadsFit p loads) (header body : List ℕ) (mac : Mac) (n : ℕ) where
       -- what is held
       pub buffered-count : {d : Direction} {phase : Phase} → Active d phase
-          → Standing p phase loads initial header body mac n
-          → heldData p phase (readerHeld p (keeps phase header body))
+          → PhaseInvariant p phase loads initial header body mac n
+          → heldData p phase (readerHeld p (readerIn phase header body))
           ≡ length (held (p .rate) (keep p (Data d)) body)
       buffered-count {d = d} Active.in-init st =
           rw (st .4, held-nil (p .rate) (keep p (Data d)))
@@ -186,8 +186,8 @@ module _ (v : SparkleVariant) where
           )
 
       pub released-data : {d : Direction} {phase : Phase} → Active d phase
-          → released p (keeps phase header body)
-          ≡ released p (keeps (Data d) header body)
+          → released p (readerIn phase header body)
+          ≡ released p (readerIn (Data d) header body)
       unfolding released plainOf plainBy
       released-data Active.in-init = refl
       released-data Active.in-aad = refl
@@ -195,8 +195,8 @@ module _ (v : SparkleVariant) where
 
       -- a data call
       module _ (d : Direction) (input : List ℕ) where
-        data-bytes : released p (keeps (Data d) header (body ++ input))
-            ≡ released p (keeps (Data d) header body)
+        data-bytes : released p (readerIn (Data d) header (body ++ input))
+            ≡ released p (readerIn (Data d) header body)
             ++ dataOut (dataEngine d header body) input
         unfolding released dataOut dataPoint blockPoint streamOut
         data-bytes = sym (data-given p (sizes v) (small v) d key nonce header body input (crypt p))
@@ -219,18 +219,18 @@ module _ (v : SparkleVariant) where
             ∙ length-append (held (p .rate) (keep p (Data d)) body) input)
 
       pub message-writes : {d : Direction} {phase : Phase} → Active d phase
-          → Standing p phase loads initial header body mac n
+          → PhaseInvariant p phase loads initial header body mac n
           → (input out : List ℕ) (k : ℕ)
-          → DataPassed p phase (readerHeld p (keeps phase header body)) (length input) (length out) k
-          → Writes (released p (keeps phase header body))
-          (released p (keeps (dataPhase phase) header (body ++ input)))
-          out (written (dataOut (beginData (engineOf v (keeps phase header body) mac n)) input) out) k
+          → DataPassed p phase (readerHeld p (readerIn phase header body)) (length input) (length out) k
+          → Writes (released p (readerIn phase header body))
+          (released p (readerIn (dataPhase phase) header (body ++ input)))
+          out (written (dataOut (beginData (engineOf v (readerIn phase header body) mac n)) input) out) k
       message-writes {d} {phase} t st input out k ok =
-          let r = keeps phase header body in
+          let r = readerIn phase header body in
           let is = begin-data v loads initial f t header body mac n st in
-          let e : released p (keeps (dataPhase phase) header (body ++ input))
+          let e : released p (readerIn (dataPhase phase) header (body ++ input))
           ≡ released p r ++ dataOut (beginData (engineOf v r mac n)) input =
-          ap (λ (x : Phase). released p (keeps x header (body ++ input))) (active-phase t)
+          ap (λ (x : Phase). released p (readerIn x header (body ++ input))) (active-phase t)
           ∙ data-bytes d input
           ∙ ap₂ (λ (x : List ℕ) (y : SparkleEngine). x ++ dataOut y input) (sym (released-data t)) (sym is)
           in
@@ -243,7 +243,7 @@ module _ (v : SparkleVariant) where
 
       -- the end of a sealing
       pub seal-bytes : isLoaded loads ≡ true → seal p key nonce header body
-          ≡ released p (keeps (Data Encrypt) header body)
+          ≡ released p (readerIn (Data Encrypt) header body)
           ++ (sealLast (dataEngine Encrypt header body) ++ sealTag (dataEngine Encrypt header body))
       unfolding seal encrypt crypted released sealLast leading plainOf plainBy
       seal-bytes l =
@@ -285,7 +285,7 @@ module _ (v : SparkleVariant) where
       -- the end of an opening
       module _ (l : isLoaded loads ≡ true) (enough : p .key ≤ length body) where
         pub open-bytes : decrypt p key nonce header (bodyOf p body)
-            ≡ released p (keeps (Data Decrypt) header body)
+            ≡ released p (readerIn (Data Decrypt) header body)
             ++ openLast (dataEngine Decrypt header body)
         unfolding decrypt crypted released plainOf plainBy
         open-bytes =
@@ -318,9 +318,9 @@ module _ (v : SparkleVariant) where
 
       -- the end, past its checks, by the direction
       module _ {d : Direction} {phase : Phase} (t : Active d phase)
-          (st : Standing p phase loads initial header body mac n)
+          (st : PhaseInvariant p phase loads initial header body mac n)
           (out : List ℕ) (k : ℕ)
-          (ok : EndPassed p phase (readerHeld p (keeps phase header body)) (length out) k) where
+          (ok : EndPassed p phase (readerHeld p (readerIn phase header body)) (length out) k) where
         pub is-open : opening (pointIn p phase key nonce header body .phase) ≡ opens d
         is-open = ap opening (phase-agrees p key nonce header body phase) ∙ active-opening t
 

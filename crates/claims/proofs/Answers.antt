@@ -20,11 +20,11 @@ use Rattle.tc_sparkle_aead.specs.Sheet.{step, run}
 use Rattle.tc_aead_cipher.specs.Outcome.{Outcome, outcome}
 use Rattle.claims.specs.Reader.{Reader, readerHeld, reader, loadedKey, loadedNonce}
 use Rattle.claims.specs.Messages.{openOutcome, Asked, endOutcome, answerOf}
-use Rattle.claims.proofs.Kept.{Follows, engineOf}
-use Rattle.claims.proofs.Follows.{follows-run, aad-some}
-use Rattle.claims.proofs.Written.{message-outcome, seal-end, open-end, end-refused}
-use Rattle.claims.proofs.Whole.{header-outcome, start-outcome}
-use Rattle.claims.proofs.Messages.{update-outcome, total-outcome}
+use Rattle.claims.proofs.Invariant.{Invariant, engineOf}
+use Rattle.claims.proofs.InvariantKept.{invariant-run, aad-some}
+use Rattle.claims.proofs.CallOutputs.{message-outcome, seal-end, open-end, end-refused}
+use Rattle.claims.proofs.UnrefusedMessages.{header-outcome, start-outcome}
+use Rattle.claims.proofs.AcceptedMessages.{update-outcome, total-outcome}
 
 -- a header call answers its check
 header-phase : (phase : Phase) (e : SparkleEngine) (x : ℕ) (input : List ℕ)
@@ -46,7 +46,7 @@ open-is : (g : Bool) (n : ℕ) → cond g (Outcome.ok n) (Outcome.no (6 ∷ []))
 open-is true n = refl
 open-is false n = refl
 
-end-answer : (v : SparkleVariant) (e : SparkleEngine) (r : Reader) → Follows v e r → (out : List ℕ) (k : AeadResult)
+end-answer : (v : SparkleVariant) (e : SparkleEngine) (r : Reader) → Invariant v e r → (out : List ℕ) (k : AeadResult)
     → endCheck (paramsOf v) (r .phase) (readerHeld (paramsOf v) r) (length out) ≡ k → (o : Bool) → opening (r .phase) ≡ o
     → step e (Call.Final out) .outcome ≡ endOutcome k o (verified (paramsOf v) (loadedKey r) (loadedNonce r) (r .header) (r .body))
 end-answer v e r w out (Err x) q o is = end-refused v e r w out x q
@@ -55,7 +55,7 @@ end-answer v e r w out (Ok n) q true is =
     ∙ open-is (verified (paramsOf v) (loadedKey r) (loadedNonce r) (r .header) (r .body)) n
 end-answer v e r w out (Ok n) q false is = seal-end v e r w out n q is .outcome-is
 
-pub answer-step : (v : SparkleVariant) (e : SparkleEngine) (r : Reader) → Follows v e r → (c : Call) → Asked c
+pub answer-step : (v : SparkleVariant) (e : SparkleEngine) (r : Reader) → Invariant v e r → (c : Call) → Asked c
     → step e c .outcome ≡ answerOf v r c
 unfolding answerOf
 answer-step v e r w (Call.Init d key nonce size h) a = start-outcome v e r w d key nonce size h
@@ -71,4 +71,4 @@ answer-step v e r w (Call.Output n) a = total-outcome v e r w n
 -- After any list of calls.
 pub answers : (v : SparkleVariant) (calls : List Call) (c : Call) → Asked c
     → step (run v calls) c .outcome ≡ answerOf v (reader v calls) c
-answers v calls = answer-step v (run v calls) (reader v calls) (follows-run v calls)
+answers v calls = answer-step v (run v calls) (reader v calls) (invariant-run v calls)

@@ -40,17 +40,17 @@ use Rattle.claims.specs.Rejected.{notInitialized, fixed, untouched, skip
 use Rattle.claims.specs.Worked.{worked, row}
 use Rattle.claims.proofs.Demand1.{returned, refusal-numbers, refusals, start-wipes, start-number-leaves, six-leaves}
 use Rattle.claims.proofs.Demand1.{unchanging-number-leaves}
-use Rattle.claims.proofs.EngineMeets.{run-six-leaves, demand-3, demand-3-call-by-call, engine-demand-3}
-use Rattle.claims.proofs.Whole.{sealed-unrefused, opened-unrefused, returned-unrefused}
-use Rattle.claims.proofs.Messages.{sealed, rooms-ample, opened-sealed, opened, rejected}
+use Rattle.claims.proofs.EngineDemand3.{run-six-leaves, demand-3, demand-3-call-by-call, engine-demand-3}
+use Rattle.claims.proofs.UnrefusedMessages.{sealed-unrefused, opened-unrefused, returned-unrefused}
+use Rattle.claims.proofs.AcceptedMessages.{sealed, rooms-ample, opened-sealed, opened, rejected}
 use Rattle.claims.proofs.Answers.{answers}
 use Rattle.claims.proofs.Demand2.{open-end-exact, mac-bytes, steps-before-end, end-tag-and-steps, end-accepted}
 use Rattle.claims.proofs.Demand2.{steps-reset, steps-new, steps-refused-start, final-keeps-all, message-bytes}
 use Rattle.claims.proofs.Demand2.{end-bytes, phase-is, held-at-most, held-at-most-64}
-use Rattle.claims.proofs.SoFar.{so-far, finished}
+use Rattle.claims.proofs.ListOutputs.{so-far, finished}
 use Rattle.claims.proofs.Shown.{sheet-shown, start-drops, reset-drops}
 use Rattle.claims.proofs.EngineCounts.{sheet-counted}
-use Rattle.claims.proofs.EngineSeals.{engine-demand-2}
+use Rattle.claims.proofs.EngineDemand2.{engine-demand-2}
 use Rattle.claims.proofs.Rejected.{notInitialized-fails-2, notInitialized-fails-3, fixed-fails-2, fixed-fails-3}
 use Rattle.claims.proofs.Rejected.{untouched-fails-2, untouched-engine-fails-2, skipping-fails-2}
 use Rattle.claims.proofs.Rejected.{skipping-engine-fails-2, inventing-fails-2, constant-steps-fail-2}

@@ -71,22 +71,22 @@ holds-bound p (Data Encrypt) n = omega arith
 holds-bound p (Data Decrypt) n = omega arith
 holds-bound p (Final d) n = omega arith
 
-taking-ok : {d : Direction} {phase : Phase} → Active d phase → phaseCheck phase ≡ Ok 0
-taking-ok in-init = refl
-taking-ok in-aad = refl
-taking-ok in-data = refl
+active-ok : {d : Direction} {phase : Phase} → Active d phase → phaseCheck phase ≡ Ok 0
+active-ok in-init = refl
+active-ok in-aad = refl
+active-ok in-data = refl
 
-taking-facing : {d : Direction} {phase : Phase} → Active d phase → HasDirection d phase
-taking-facing in-init = of-init
-taking-facing in-aad = of-aad
-taking-facing in-data = of-data
+active-direction : {d : Direction} {phase : Phase} → Active d phase → HasDirection d phase
+active-direction in-init = of-init
+active-direction in-aad = of-aad
+active-direction in-data = of-data
 
-facing-opens : {d : Direction} {phase : Phase} → HasDirection d phase → opening phase ≡ opens d
-facing-opens no-message = refl
-facing-opens of-init = refl
-facing-opens of-aad = refl
-facing-opens of-data = refl
-facing-opens of-final = refl
+direction-opens : {d : Direction} {phase : Phase} → HasDirection d phase → opening phase ≡ opens d
+direction-opens no-message = refl
+direction-opens of-init = refl
+direction-opens of-aad = refl
+direction-opens of-data = refl
+direction-opens of-final = refl
 
 ready-writes : (p : Params) (d : Direction) (sum : ℕ)
     → ready (p .rate) (cond (opens d) (p .key) 0) sum * p .rate ≡ dataWrites d p sum
@@ -101,35 +101,35 @@ module _ (p : Params) (d : Direction) (phase : Phase) (k n : ℕ) where
 
   update-fits : HasDirection d phase → heldAt p phase k + n < 2 ^ 64
       → updateLen p phase k n ≡ Ok (dataWrites d p (heldAt p phase k + n))
-  update-fits f fits = updateLen-fits p phase k n (rw heldData-is fits) ∙ rw (heldData-is, facing-opens f, ready-writes)
+  update-fits f fits = updateLen-fits p phase k n (rw heldData-is fits) ∙ rw (heldData-is, direction-opens f, ready-writes)
 
 output-over : (p : Params) (d : Direction) (phase : Phase) (k n : ℕ) → HasDirection d phase
     → 2 ^ 64 ≤ outputSum d p (heldAt p phase k + n) → totalLen p phase k n ≡ Err InputTooLong
-output-over p Encrypt phase k n f over = totalLen-sealing-over p phase k n (facing-opens f) (rw heldData-is over)
+output-over p Encrypt phase k n f over = totalLen-sealing-over p phase k n (direction-opens f) (rw heldData-is over)
 output-over p Decrypt phase k n f over = totalLen-over p phase k n (rw heldData-is over)
 
 output-fits : (p : Params) (d : Direction) (phase : Phase) (k n : ℕ) → HasDirection d phase
     → outputSum d p (heldAt p phase k + n) < 2 ^ 64 → totalLen p phase k n ≡ Ok (endWrites d p (heldAt p phase k + n))
 output-fits p Encrypt phase k n f fits =
-    totalLen-sealing p phase k n (facing-opens f) (rw heldData-is fits) ∙ rw heldData-is
+    totalLen-sealing p phase k n (direction-opens f) (rw heldData-is fits) ∙ rw heldData-is
 output-fits p Decrypt phase k n f fits =
-    totalLen-opening p phase k n (facing-opens f) (rw heldData-is fits) ∙ rw heldData-is
+    totalLen-opening p phase k n (direction-opens f) (rw heldData-is fits) ∙ rw heldData-is
 
 -- A data call and an end in a phase that takes them.
 module _ (p : Params) (d : Direction) (phase : Phase) (k n available : ℕ) (t : Active d phase) where
   data-sum-law : 2 ^ 64 ≤ heldAt p phase k + n → dataCheck p phase k n available ≡ Err InputTooLong
   unfolding dataCheck
-  data-sum-law over = rw (taking-ok t, update-over p d phase k n over)
+  data-sum-law over = rw (active-ok t, update-over p d phase k n over)
 
   data-room-law : heldAt p phase k + n < 2 ^ 64 → available < dataWrites d p (heldAt p phase k + n)
       → dataCheck p phase k n available ≡ Err (OutputTooShort (dataWrites d p (heldAt p phase k + n)) available)
   unfolding dataCheck
-  data-room-law fits short = rw (taking-ok t, update-fits p d phase k n (taking-facing t) fits, lt-ltb _ _ short)
+  data-room-law fits short = rw (active-ok t, update-fits p d phase k n (active-direction t) fits, lt-ltb _ _ short)
 
   data-taken : heldAt p phase k + n < 2 ^ 64 → dataWrites d p (heldAt p phase k + n) ≤ available
       → dataCheck p phase k n available ≡ Ok (dataWrites d p (heldAt p phase k + n))
   unfolding dataCheck
-  data-taken fits enough = rw (taking-ok t, update-fits p d phase k n (taking-facing t) fits, le-ltb _ _ enough)
+  data-taken fits enough = rw (active-ok t, update-fits p d phase k n (active-direction t) fits, le-ltb _ _ enough)
 
 -- the sum of an end never passes 2^64 - 1
 end-sum : (p : Params) (d : Direction) (phase : Phase) (k : ℕ) → Small p
@@ -145,7 +145,7 @@ module _ (p : Params) (s : Small p) (d : Direction) (phase : Phase) (k available
   end-room-law : available < endWrites d p (heldAt p phase k)
       → endCheck p phase k available ≡ Err (OutputTooShort (endWrites d p (heldAt p phase k)) available)
   unfolding endCheck
-  end-room-law short = rw (taking-ok t, end-fits p s d phase k (taking-facing t), lt-ltb _ _ short)
+  end-room-law short = rw (active-ok t, end-fits p s d phase k (active-direction t), lt-ltb _ _ short)
 
 module _ (p : Params) (s : Small p) (phase : Phase) (k available : ℕ) where
   seal-taken : Active Encrypt phase → heldAt p phase k + p .key ≤ available
@@ -153,10 +153,10 @@ module _ (p : Params) (s : Small p) (phase : Phase) (k available : ℕ) where
   unfolding endCheck
   seal-taken t enough =
       rw (
-        taking-ok t,
-        end-fits p s Encrypt phase k (taking-facing t),
+        active-ok t,
+        end-fits p s Encrypt phase k (active-direction t),
         le-ltb _ _ enough,
-        facing-opens (taking-facing t),
+        direction-opens (active-direction t),
       )
 
   module _ (t : Active Decrypt phase) where
@@ -166,10 +166,10 @@ module _ (p : Params) (s : Small p) (phase : Phase) (k available : ℕ) where
     no-tag-law short =
         let enough : heldAt p phase k - p .key ≤ available = omega arith in
         rw (
-          taking-ok t,
-          end-fits p s Decrypt phase k (taking-facing t),
+          active-ok t,
+          end-fits p s Decrypt phase k (active-direction t),
           le-ltb _ _ enough,
-          facing-opens (taking-facing t),
+          direction-opens (active-direction t),
           heldData-is,
           lt-ltb _ _ short,
         )
@@ -179,10 +179,10 @@ module _ (p : Params) (s : Small p) (phase : Phase) (k available : ℕ) where
     unfolding endCheck
     open-taken whole enough =
         rw (
-          taking-ok t,
-          end-fits p s Decrypt phase k (taking-facing t),
+          active-ok t,
+          end-fits p s Decrypt phase k (active-direction t),
           le-ltb _ _ enough,
-          facing-opens (taking-facing t),
+          direction-opens (active-direction t),
           heldData-is,
           le-ltb _ _ whole,
         )
@@ -270,7 +270,7 @@ seal-count : (e : SparkleEngine) (out : List ℕ) → Active Encrypt (e .current
     → step e (Call.Final out) .outcome ≡ ok (engineHeld e + keyOf e)
 unfolding step doFinal sealFinal
 seal-count e out t enough =
-    rw (seal-taken _ (small (e .variant)) _ _ _ t enough, facing-opens (taking-facing t))
+    rw (seal-taken _ (small (e .variant)) _ _ _ t enough, direction-opens (active-direction t))
 
 -- with a tag's bytes at hand an opening is in Data
 whole-in-data : (p : Params) (phase : Phase) (k : ℕ) → 0 < p .key → Active Decrypt phase → p .key ≤ heldAt p phase k
@@ -287,12 +287,12 @@ module _ (e : SparkleEngine) (out : List ℕ) (q : e .current .phase ≡ Data De
       let t : Active Decrypt (e .current .phase) = rw q in-data in
       rw (open-taken _ (small (e .variant)) _ _ _ t whole enough, opening-end e _ true q (same-of-equal _ _ equal))
 
-facing : (phase : Phase) → (d : Direction) × HasDirection d phase
-facing Uninitialized = (Encrypt, no-message)
-facing (Init d) = (d, of-init)
-facing (Aad d) = (d, of-aad)
-facing (Data d) = (d, of-data)
-facing (Final d) = (d, of-final)
+has-direction : (phase : Phase) → (d : Direction) × HasDirection d phase
+has-direction Uninitialized = (Encrypt, no-message)
+has-direction (Init d) = (d, of-init)
+has-direction (Aad d) = (d, of-aad)
+has-direction (Data d) = (d, of-data)
+has-direction (Final d) = (d, of-final)
 
 module _ (e : SparkleEngine) (d : Direction) (n : ℕ) (f : HasDirection d (e .current .phase)) where
   update-count : engineHeld e + n < 2 ^ 64
@@ -422,7 +422,7 @@ module _ (e : SparkleEngine) where
 
   told-update : (n : ℕ) → Dec (engineHeld e + n < 2 ^ 64) → Told e (Call.Update n) (step e (Call.Update n) .outcome)
   told-update n (Dec.yes fits) =
-      let f = facing (e .current .phase) in told-count (update-count e (f .0) n (f .1) fits)
+      let f = has-direction (e .current .phase) in told-count (update-count e (f .0) n (f .1) fits)
   told-update n (Dec.no w) = let over : 2 ^ 64 ≤ engineHeld e + n = omega arith in told-number (update-sum over)
 
   told-output : (n : ℕ) (d : Direction) → HasDirection d (e .current .phase)
@@ -442,7 +442,7 @@ module _ (e : SparkleEngine) where
   told Call.Mac = count _
   told (Call.Update n) = told-update n (decLt (engineHeld e + n) (2 ^ 64))
   told (Call.Output n) =
-      let f = facing (e .current .phase) in
+      let f = has-direction (e .current .phase) in
       told-output n (f .0) (f .1) (decLt (outputSum (f .0) (paramsOf (e .variant)) (engineHeld e + n)) (2 ^ 64))
 
   -- And it comes back nowhere else.

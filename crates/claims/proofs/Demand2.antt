@@ -35,11 +35,11 @@ use Rattle.claims.specs.Reader.{readerHeld, read, reader, Load, loadedKe
 use Rattle.claims.specs.Messages.{released, Writes, Each, endOutcome, answerOf, messageOf, EndsWith, finishedBytes}
 use Rattle.claims.specs.Messages.{OpenEndExact, Before, stepsBefore, stepsAfterInit, Keeps}
 use Rattle.claims.proofs.Points.{blockPoint}
-use Rattle.claims.proofs.Kept.{Standing, Sealed, openedMac, headCount, dataCount, headPoint, dataPoint, pointIn}
-use Rattle.claims.proofs.Kept.{initialCount, phase-agrees}
-use Rattle.claims.proofs.Follows.{kept, follows-run, aad-some}
+use Rattle.claims.proofs.Invariant.{PhaseInvariant, SealingFinal, openedMac, headCount, dataCount, headPoint}
+use Rattle.claims.proofs.Invariant.{dataPoint, pointIn, initialCount, phase-agrees}
+use Rattle.claims.proofs.InvariantKept.{readerOf, invariant-run, aad-some}
 use Rattle.claims.proofs.Answers.{answers}
-use Rattle.claims.proofs.Written.{SealEnd, OpenEnd, end-ended, message-writes-next, seal-end, open-end}
+use Rattle.claims.proofs.CallOutputs.{SealEnd, OpenEnd, end-ended, message-writes-next, seal-end, open-end}
 
 module _ (v : SparkleVariant) (calls : List Call) where
   -- An accepted data call writes the specification's next bytes.
@@ -47,13 +47,13 @@ module _ (v : SparkleVariant) (calls : List Call) where
       → Writes (released (paramsOf v) (reader v calls))
       (released (paramsOf v) (read v (reader v calls) (Call.Data input out) .reader)) out
       (step (run v calls) (Call.Data input out) .buffer) n
-  message-bytes = message-writes-next v (run v calls) (reader v calls) (follows-run v calls)
+  message-bytes = message-writes-next v (run v calls) (reader v calls) (invariant-run v calls)
 
   -- A sealing's end past its checks is accepted, and with its bytes the bytes are the specification's packet.
   pub seal-end-bytes : (out : List ℕ) (n : ℕ) → opening (reader v calls .phase) ≡ false
       → endCheck (paramsOf v) (reader v calls .phase) (readerHeld (paramsOf v) (reader v calls)) (length out) ≡ Ok n
       → SealEnd v (reader v calls) out n (step (run v calls) (Call.Final out))
-  seal-end-bytes out n o passed = seal-end v (run v calls) (reader v calls) (follows-run v calls) out n passed o
+  seal-end-bytes out n o passed = seal-end v (run v calls) (reader v calls) (invariant-run v calls) out n passed o
 
   -- An opening's end past its checks is accepted exactly when the packet is verified; then the bytes are what the packet
   -- decrypts to, else what would have been written is zeros.
@@ -62,7 +62,7 @@ module _ (v : SparkleVariant) (calls : List Call) where
       → OpenEnd v (reader v calls) out n
       (verified (paramsOf v) (loadedKey (reader v calls)) (loadedNonce (reader v calls)) (reader v calls .header) (reader v calls .body))
       (step (run v calls) (Call.Final out))
-  open-end-bytes out n o passed = open-end v (run v calls) (reader v calls) (follows-run v calls) out n passed o
+  open-end-bytes out n o passed = open-end v (run v calls) (reader v calls) (invariant-run v calls) out n passed o
 
 exact-ok : (g : Bool) (n : ℕ) (o : Outcome) → o ≡ cond g (Outcome.ok n) (Outcome.no (6 ∷ []))
     → (o ≡ Outcome.ok n) ↔ (g ≡ true)
@@ -96,7 +96,7 @@ pub end-tag-and-steps : (v : SparkleVariant) (calls : List Call) (out : List ℕ
     (verified (paramsOf v) (loadedKey (reader v calls)) (loadedNonce (reader v calls)) (reader v calls .header)
     (reader v calls .body)) true)
     (step (run v calls) (Call.Final out) .engine)
-end-tag-and-steps v calls out n passed = end-ended v (run v calls) (reader v calls) (follows-run v calls) out n passed
+end-tag-and-steps v calls out n passed = end-ended v (run v calls) (reader v calls) (invariant-run v calls) out n passed
 
 -- What an accepted end says: its checks passed, and an opening's packet is verified.
 end-passed : (k : AeadResult) (o g : Bool) (n : ℕ) → endOutcome k o g ≡ Outcome.ok n → (k ≡ Ok n) × (cond o g true ≡ true)
@@ -143,14 +143,14 @@ opened-tag true t mac e h = e
 opened-tag false t mac e h = absurd (no-tag mac e h)
 
 sealed-tag : (p : Params) (key nonce initial header body : List ℕ) (mac : Mac) (c : ℕ)
-    → Sealed p key nonce initial header body mac c
+    → SealingFinal p key nonce initial header body mac c
     → mac .readable ≡ true → mac ≡ readable (tag p key nonce header body)
-sealed-tag p key nonce initial header body mac c (Sealed.stopped e k) h = absurd (no-tag mac e h)
-sealed-tag p key nonce initial header body mac c (Sealed.finished e k) h = e
+sealed-tag p key nonce initial header body mac c (SealingFinal.was-reset e k) h = absurd (no-tag mac e h)
+sealed-tag p key nonce initial header body mac c (SealingFinal.has-ended e k) h = e
 
 mac-in : (p : Params) (phase : Phase) (loads : List Load) (initial header body : List ℕ) (mac : Mac) (c : ℕ)
-    → Standing p phase loads initial header body mac c → mac .readable ≡ true
-    → mac ≡ readable (tag p (lastKey loads) (lastNonce loads) header (messageOf p (kept loads initial phase header body)))
+    → PhaseInvariant p phase loads initial header body mac c → mac .readable ≡ true
+    → mac ≡ readable (tag p (lastKey loads) (lastNonce loads) header (messageOf p (readerOf loads initial phase header body)))
 unfolding messageOf openedMac
 mac-in p Uninitialized loads initial header body mac c st h = absurd (no-tag mac (st .0) h)
 mac-in p (Init d) loads initial header body mac c st h = absurd (no-tag mac (st .1) h)
@@ -176,13 +176,13 @@ pub mac-bytes : (v : SparkleVariant) (calls : List Call) → macOf (run v calls)
     (messageOf (paramsOf v) (reader v calls)))
 mac-bytes v calls h =
     let r = reader v calls in
-    let w = follows-run v calls in
+    let w = invariant-run v calls in
     let e = run v calls in
     let s = shown-mac e h in
     let is : e .mac ≡ w .mac = ap (λ (x : SparkleEngine). x .mac) (w .same-engine) in
     s .1 ∙ is
     ∙ mac-in (paramsOf v) (r .phase) (r .loads) (r .initial) (r .header) (r .body) (w .mac) (w .count)
-    (w .standing)
+    (w .phase-invariant)
     (sym (ap (λ (m : Mac). m .readable) is) ∙ s .0)
 
 -- ---- What is held
@@ -202,7 +202,7 @@ pub held-at-most : (v : SparkleVariant) (calls : List Call)
     → run v calls .current .held ≤ keep (paramsOf v) (reader v calls .phase) + paramsOf v .rate
 held-at-most v calls =
     let r = reader v calls in
-    let w = follows-run v calls in
+    let w = invariant-run v calls in
     subst (λ (e : SparkleEngine). e .current .held ≤ keep (paramsOf v) (r .phase) + paramsOf v .rate) (sym (w .same-engine))
     (held-phase (paramsOf v) (sizes v .rate-positive) (loadedKey r) (loadedNonce r) (r .header) (r .body) (r .phase))
 
@@ -214,14 +214,14 @@ held-at-most-64 v calls =
 pub phase-is : (v : SparkleVariant) (calls : List Call) → run v calls .current .phase ≡ reader v calls .phase
 phase-is v calls =
     let r = reader v calls in
-    ap (λ (e : SparkleEngine). e .current .phase) (follows-run v calls .same-engine)
+    ap (λ (e : SparkleEngine). e .current .phase) (invariant-run v calls .same-engine)
     ∙ phase-agrees (paramsOf v) (loadedKey r) (loadedNonce r) (r .header) (r .body) (r .phase)
 
 -- ---- The steps
 
 steps-in : (p : Params) (phase : Phase) (loads : List Load) (initial header body : List ℕ) (mac : Mac) (c : ℕ)
     → Before phase
-    → Standing p phase loads initial header body mac c → c ≡ stepsBefore p phase header body % 2 ^ 64
+    → PhaseInvariant p phase loads initial header body mac c → c ≡ stepsBefore p phase header body % 2 ^ 64
 unfolding stepsBefore headCount dataCount
 steps-in p Uninitialized loads initial header body mac c b st = st .1
 steps-in p (Init d) loads initial header body mac c b st = st .2
@@ -236,10 +236,10 @@ pub steps-before-end : (v : SparkleVariant) (calls : List Call) → Before (read
 unfolding stepsNow
 steps-before-end v calls b =
     let r = reader v calls in
-    let w = follows-run v calls in
+    let w = invariant-run v calls in
     ap (λ (e : SparkleEngine). e .steps .current) (w .same-engine)
     ∙ steps-in (paramsOf v) (r .phase) (r .loads) (r .initial) (r .header) (r .body) (w .mac)
-    (w .count) b (w .standing)
+    (w .count) b (w .phase-invariant)
 
 initial-steps : (p : Params) (phase : Phase) (initial : List ℕ) → initialCount p phase initial
     ≡ stepsAfterInit p phase initial % 2 ^ 64
@@ -256,7 +256,7 @@ pub steps-reset : (v : SparkleVariant) (calls : List Call)
     ≡ stepsAfterInit (paramsOf v) (reader v calls .phase) (reader v calls .initial) % 2 ^ 64
 unfolding stepsNow step resetEngine resetSteps
 steps-reset v calls =
-    ap (λ (e : SparkleEngine). e .steps .initial) (follows-run v calls .same-engine)
+    ap (λ (e : SparkleEngine). e .steps .initial) (invariant-run v calls .same-engine)
     ∙ initial-steps (paramsOf v) (reader v calls .phase) (reader v calls .initial)
 
 -- A new engine and a refused start give 0.

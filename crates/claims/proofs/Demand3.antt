@@ -189,13 +189,13 @@ take-map zero xs = refl
 take-map (suc k) [] = refl
 take-map (suc k) (x ∷ xs) = ap (λ (ss : List Shape). shape x ∷ ss) (take-map k xs)
 
--- `Follows` is an invariant between the engine and the reader of the same calls that gives what `Linked` states.
-module _ (v : SparkleVariant) (Follows : SparkleEngine → Reader → Type 0)
-    (linked : (e : SparkleEngine) (r : Reader) → Follows e r → Linked v e r)
-    (new : Follows (newEngine v) newReader)
-    (keeps : (e : SparkleEngine) (r : Reader) (c : Call) → Follows e r → Follows (step e c .engine) (read v r c .reader))
+-- `Invariant` is an invariant between the engine and the reader of the same calls that gives what `Linked` states.
+module _ (v : SparkleVariant) (Invariant : SparkleEngine → Reader → Type 0)
+    (linked : (e : SparkleEngine) (r : Reader) → Invariant e r → Linked v e r)
+    (new : Invariant (newEngine v) newReader)
+    (keeps : (e : SparkleEngine) (r : Reader) (c : Call) → Invariant e r → Invariant (step e c .engine) (read v r c .reader))
   where
-    pub asked-are-notes : (xs : List Call) (e : SparkleEngine) (r : Reader) → Follows e r
+    pub asked-are-notes : (xs : List Call) (e : SparkleEngine) (r : Reader) → Invariant e r
         → askedAll e xs ≡ notes v r xs
     unfolding askedAll notes
     asked-are-notes [] e r f = refl

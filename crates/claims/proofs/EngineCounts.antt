@@ -1,5 +1,5 @@
--- Demand 2, the steps: on every line of every list of calls they are the formula's. Outside Final the invariant `Follows`
--- has them; in Final they change only at the end that leads there and at a reset.
+-- Demand 2, the steps: on every line of every list of calls they are the formula's. Outside Final the invariant has
+-- them; in Final they change only at the end that leads there and at a reset.
 use mathlib.Core.Path.{_≡_, refl, sym, ap, subst, _∙_}
 use mathlib.Core.Bool.{Bool, true, false}
 use mathlib.Core.List.{List, [], _∷_, map}
@@ -32,13 +32,13 @@ use Rattle.claims.specs.Reader.{Reader, newReader, readerHeld, repeated,
 use Rattle.claims.specs.Reader.{Load, lastKey, lastNonce, readMessage, endIn, readEnd, resetIn, read}
 use Rattle.claims.specs.Machine.{engine, linesOf, sheetOf, startSteps, messageLength, endSteps, finalSteps, stepsIn}
 use Rattle.claims.specs.Machine.{counts}
-use Rattle.claims.proofs.Kept.{Follows, Standing, Sealed, stopped, finished, headCount, dataCount, initialCount}
-use Rattle.claims.proofs.Kept.{follows-new}
-use Rattle.claims.proofs.Follows.{follows-step}
+use Rattle.claims.proofs.Invariant.{Invariant, PhaseInvariant, SealingFinal, was-reset, has-ended, headCount}
+use Rattle.claims.proofs.Invariant.{dataCount, initialCount, invariant-new}
+use Rattle.claims.proofs.InvariantKept.{invariant-step}
 use Rattle.claims.proofs.PublicState.{Public, publicOf, asked, next-is, headerNext, headerIn, dataNext, endNext, yes}
 use Rattle.claims.proofs.Demand3.{endCheck-held}
-use Rattle.claims.proofs.Meets.{engine-lines}
-use Rattle.claims.proofs.EngineMeets.{linked}
+use Rattle.claims.proofs.MachineDemand3.{engine-lines}
+use Rattle.claims.proofs.EngineDemand3.{linked}
 
 -- ---- The count in a phase
 
@@ -48,28 +48,28 @@ no-tag = refl
 
 -- after an end: a sealing's tag can be read, so it was not a reset that led to Final
 ended-count : (p : Params) (d : Direction) (loads : List Load) (initial header body : List ℕ) (mac : Mac) (n : ℕ)
-    → Standing p (Final d) loads initial header body mac n → (d ≡ Encrypt → mac .readable ≡ true)
+    → PhaseInvariant p (Final d) loads initial header body mac n → (d ≡ Encrypt → mac .readable ≡ true)
     → n ≡ steps p (length header) (messageLength d p (length body)) % 2 ^ 64
 ended-count p Decrypt loads initial header body mac n st h = st .2
 ended-count p Encrypt loads initial header body mac n st h = by (st .1)
   where
-    by : Sealed p (lastKey loads) (lastNonce loads) initial header body mac n → n ≡ steps p (length header) (length body) % 2 ^ 64
-    by (finished m c) = c
-    by (stopped m c) =
+    by : SealingFinal p (lastKey loads) (lastNonce loads) initial header body mac n → n ≡ steps p (length header) (length body) % 2 ^ 64
+    by (has-ended m c) = c
+    by (was-reset m c) =
         absurd (let a = h refl in let b = ap (λ (x : Mac). x .readable) m ∙ no-tag in let z : _≡_ {A = ℕ} 0 1 = cc in omega arith)
 
-standing-count : (p : Params) (phase old : Phase) (loads : List Load) (initial header body : List ℕ) (mac : Mac)
-    (n before : ℕ) (c : Call) → Standing p phase loads initial header body mac n
+phase-count : (p : Params) (phase old : Phase) (loads : List Load) (initial header body : List ℕ) (mac : Mac)
+    (n before : ℕ) (c : Call) → PhaseInvariant p phase loads initial header body mac n
     → ((d : Direction) → phase ≡ Final d
     → n ≡ finalSteps c old p before d (record { phase = phase; loads = loads; initial = initial; header = header; body = body }))
     → n ≡ stepsIn phase old p before c (record { phase = phase; loads = loads; initial = initial; header = header; body = body })
 unfolding headCount dataCount
-standing-count p Uninitialized old loads initial header body mac n before c st h = st .1
-standing-count p (Init d) old loads initial header body mac n before c st h =
+phase-count p Uninitialized old loads initial header body mac n before c st h = st .1
+phase-count p (Init d) old loads initial header body mac n before c st h =
     st .2 ∙ ap (λ (l : List ℕ). startSteps p (length l)) (st .3)
-standing-count p (Aad d) old loads initial header body mac n before c st h = st .2
-standing-count p (Data d) old loads initial header body mac n before c st h = st .2
-standing-count p (Final d) old loads initial header body mac n before c st h = h d refl
+phase-count p (Aad d) old loads initial header body mac n before c st h = st .2
+phase-count p (Data d) old loads initial header body mac n before c st h = st .2
+phase-count p (Final d) old loads initial header body mac n before c st h = h d refl
 
 -- ---- Which calls lead to Final
 
@@ -123,7 +123,7 @@ data-steps : (p : Params) (u : Public) (phase : Phase) (held n available : ℕ) 
 unfolding dataCheck
 data-steps p u phase held n available d q = rw q
 
--- An end that is taken leads to the phase's own direction.
+-- An accepted end leads to the phase's own direction.
 direction : (phase : Phase) (p : Params) (r : Reader) (d : Direction) (held available k : ℕ)
     → endCheck p phase held available ≡ Ok k → endIn phase p r .reader .phase ≡ Final d → opening phase ≡ opens d
 unfolding endCheck
@@ -174,7 +174,7 @@ taken-readable k n u right q sealing = rw (q, sealing)
 
 -- ---- The steps after a call
 
-module _ (v : SparkleVariant) (e : SparkleEngine) (r : Reader) (w : Follows v e r) where
+module _ (v : SparkleVariant) (e : SparkleEngine) (r : Reader) (w : Invariant v e r) where
   same-check : (out : List ℕ)
       → endCheck (paramsOf (e .variant)) (e .current .phase) (e .current .held) (length out)
       ≡ endCheck (paramsOf v) (r .phase) (readerHeld (paramsOf v) r) (length out)
@@ -212,11 +212,11 @@ module _ (v : SparkleVariant) (e : SparkleEngine) (r : Reader) (w : Follows v e 
       ≡ steps (paramsOf v) (length (read v r (Call.Final out) .reader .header))
       (messageLength d (paramsOf v) (length (read v r (Call.Final out) .reader .body))) % 2 ^ 64
   end-taken out d k passed o q =
-      let f = follows-step v e r w (Call.Final out) in
+      let f = invariant-step v e r w (Call.Final out) in
       let x = read v r (Call.Final out) .reader in
-      let st : Standing (paramsOf v) (Final d) (x .loads) (x .initial) (x .header) (x .body) (f .mac) (f .count) =
-      subst (λ (phase : Phase). Standing (paramsOf v) phase (x .loads) (x .initial) (x .header) (x .body) (f .mac) (f .count))
-      q (f .standing)
+      let st : PhaseInvariant (paramsOf v) (Final d) (x .loads) (x .initial) (x .header) (x .body) (f .mac) (f .count) =
+      subst (λ (phase : Phase). PhaseInvariant (paramsOf v) phase (x .loads) (x .initial) (x .header) (x .body) (f .mac) (f .count))
+      q (f .phase-invariant)
       in
       ap (λ (y : SparkleEngine). y .steps .current) (f .same-engine)
       ∙ ended-count (paramsOf v) d (x .loads) (x .initial) (x .header) (x .body) (f .mac) (f .count) st
@@ -268,27 +268,27 @@ module _ (v : SparkleVariant) (e : SparkleEngine) (r : Reader) (w : Follows v e 
       ≡ stepsIn (read v r c .reader .phase) (r .phase) (paramsOf v) (stepsNow e) c (read v r c .reader)
   unfolding stepsNow
   steps-after c =
-      let f = follows-step v e r w c in
+      let f = invariant-step v e r w c in
       let q = read v r c .reader in
       let n : step e c .engine .steps .current ≡ f .count = ap (λ (x : SparkleEngine). x .steps .current) (f .same-engine) in
-      n ∙ standing-count (paramsOf v) (q .phase) (r .phase) (q .loads) (q .initial) (q .header) (q .body)
-      (f .mac) (f .count) (stepsNow e) c (f .standing) (λ d h. sym n ∙ steps-in-final c d h)
+      n ∙ phase-count (paramsOf v) (q .phase) (r .phase) (q .loads) (q .initial) (q .header) (q .body)
+      (f .mac) (f .count) (stepsNow e) c (f .phase-invariant) (λ d h. sym n ∙ steps-in-final c d h)
 
-engine-counts : (v : SparkleVariant) (calls : List Call) (e : SparkleEngine) (r : Reader) → Follows v e r
+engine-counts : (v : SparkleVariant) (calls : List Call) (e : SparkleEngine) (r : Reader) → Invariant v e r
     → map (λ (l : Line). l .steps) (linesOf engine e calls) ≡ counts v r (stepsNow e) calls
 unfolding counts line
 engine-counts v [] e r w = refl
 engine-counts v (c ∷ calls) e r w =
     let s = steps-after v e r w c in
     let q = read v r c .reader in
-    ap (λ (ns : List ℕ). stepsNow (step e c .engine) ∷ ns) (engine-counts v calls (step e c .engine) q (follows-step v e r w c))
+    ap (λ (ns : List ℕ). stepsNow (step e c .engine) ∷ ns) (engine-counts v calls (step e c .engine) q (invariant-step v e r w c))
     ∙ ap (λ (n : ℕ). n ∷ counts v q n calls) s
 
 -- Demand 2, the steps.
 pub engine-counted : (v : SparkleVariant) (calls : List Call)
     → map (λ (l : Line). l .steps) (sheetOf engine v calls) ≡ counts v newReader 0 calls
 unfolding newEngine noSteps stepsNow
-engine-counted v calls = engine-counts v calls (newEngine v) newReader (follows-new v)
+engine-counted v calls = engine-counts v calls (newEngine v) newReader (invariant-new v)
 
 -- The same of the sheet of the engine's own calls.
 pub sheet-counted : (v : SparkleVariant) (calls : List Call)

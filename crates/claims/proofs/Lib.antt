@@ -1,45 +1,45 @@
 -- The proofs of the claims.
 -- Points: a point of a message as a function of the data so far.
--- Packets: what an opening holds at its end.
--- Kept: what the engine is after a list of calls, from what the reader keeps.
--- Follows: every call keeps that.
+-- OpeningEnd: what an opening holds at its end.
+-- Invariant: what the engine is after a list of calls, from what the reader keeps.
+-- InvariantKept: every call keeps that.
 -- Accepted: what accepted calls write, on such an engine.
--- Written: what each call of a list writes and answers.
--- Whole: what the calls of a message write, of what was not refused.
--- Messages: whole messages with room are accepted.
+-- CallOutputs: what each call of a list writes and answers.
+-- UnrefusedMessages: what the calls of a message write, of what was not refused.
+-- AcceptedMessages: whole messages with room are accepted.
 -- Answers: every answer from what the reader keeps.
 -- Demand2: bytes, tag, held bytes and steps, call by call.
--- SoFar: the bytes of every list of calls, resets included.
+-- ListOutputs: the bytes of every list of calls, resets included.
 -- Demand1: where each refusal comes back and what it leaves.
 -- PublicState: what of an engine decides its sheet, beside the verdicts.
 -- Demand3: sheets and verdicts, from an invariant between engine and reader.
 -- Rejected: the refutations of the engines that the demands reject.
--- Meets: answers and demand 3 of the engine as a machine, from the same invariant.
--- EngineMeets: demand 3, and 6 after every list of calls.
+-- MachineDemand3: answers and demand 3 of the engine as a machine, from the same invariant.
+-- EngineDemand3: demand 3, and 6 after every list of calls.
 -- Shown: whether a tag can be read, on every line.
 -- EngineCounts: the steps of every line.
--- EngineSeals: the engine as a machine meets demand 2.
+-- EngineDemand2: the engine as a machine meets demand 2.
 -- WorkedSheet: the sheet that document 01 works by hand.
 -- Claims: every final statement in full; begin there.
 pub mod Points
-pub mod Packets
-pub mod Kept
-pub mod Follows
+pub mod OpeningEnd
+pub mod Invariant
+pub mod InvariantKept
 pub mod Accepted
-pub mod Written
-pub mod Whole
-pub mod Messages
+pub mod CallOutputs
+pub mod UnrefusedMessages
+pub mod AcceptedMessages
 pub mod Answers
 pub mod Demand2
-pub mod SoFar
+pub mod ListOutputs
 pub mod Demand1
 pub mod PublicState
 pub mod Demand3
 pub mod Rejected
-pub mod Meets
-pub mod EngineMeets
+pub mod MachineDemand3
+pub mod EngineDemand3
 pub mod Shown
 pub mod EngineCounts
-pub mod EngineSeals
+pub mod EngineDemand2
 pub mod WorkedSheet
 pub mod Claims

@@ -1,4 +1,4 @@
--- Whether a tag can be read, after every call of every list: only a start, a reset and an end that is taken change the tag.
+-- Whether a tag can be read, after every call of every list: only a start, a reset and an accepted end change the tag.
 use mathlib.Core.Path.{_≡_, refl, sym, ap, _∙_}
 use mathlib.Core.Bool.{Bool, true, false, cond}
 use mathlib.Core.List.{List, [], _∷_, map}
@@ -27,10 +27,10 @@ use Rattle.tc_sparkle_aead.specs.Sheet.{step, Line, line, lines, sheet}
 use Rattle.claims.specs.Reader.{Reader, newReader, readerHeld, read, loadedKey, loadedNonce}
 use Rattle.claims.specs.Messages.{shownByEnd, shownAfter, shownTags}
 use Rattle.claims.specs.Machine.{engine, sheetOf}
-use Rattle.claims.proofs.Kept.{Follows, engineOf, follows-new}
-use Rattle.claims.proofs.Follows.{follows-step, final-answer}
-use Rattle.claims.proofs.Written.{end-ended}
-use Rattle.claims.proofs.Meets.{engine-lines}
+use Rattle.claims.proofs.Invariant.{Invariant, engineOf, invariant-new}
+use Rattle.claims.proofs.InvariantKept.{invariant-step, final-answer}
+use Rattle.claims.proofs.CallOutputs.{end-ended}
+use Rattle.claims.proofs.MachineDemand3.{engine-lines}
 
 -- ---- Calls that keep the tag.
 
@@ -98,7 +98,7 @@ end-shows : (opens right before : Bool) (n : ℕ) → cond opens right true ≡ 
 end-shows true right before n = refl
 end-shows false right before n = refl
 
-module _ (v : SparkleVariant) (e : SparkleEngine) (r : Reader) (w : Follows v e r) where
+module _ (v : SparkleVariant) (e : SparkleEngine) (r : Reader) (w : Invariant v e r) where
   end-step : (out : List ℕ) → macOf (step e (Call.Final out) .engine) .readable
       ≡ shownAfter v r (macOf e .readable) (Call.Final out)
   unfolding shownAfter
@@ -141,20 +141,20 @@ module _ (v : SparkleVariant) (e : SparkleEngine) (r : Reader) (w : Follows v e 
 
 -- ---- Every list of calls.
 
-shown-from : (v : SparkleVariant) (calls : List Call) (e : SparkleEngine) (r : Reader) → Follows v e r
+shown-from : (v : SparkleVariant) (calls : List Call) (e : SparkleEngine) (r : Reader) → Invariant v e r
     → map (λ (l : Line). l .readable) (lines e calls) ≡ shownTags v r (macOf e .readable) calls
 unfolding shownTags lines line
 shown-from v [] e r w = refl
 shown-from v (c ∷ calls) e r w =
     let q = read v r c .reader in
     ap (λ (bs : List Bool). macOf (step e c .engine) .readable ∷ bs)
-    (shown-from v calls (step e c .engine) q (follows-step v e r w c))
+    (shown-from v calls (step e c .engine) q (invariant-step v e r w c))
     ∙ ap (λ (b : Bool). b ∷ shownTags v q b calls) (shown-step v e r w c)
 
 pub sheet-shown : (v : SparkleVariant) (calls : List Call)
     → map (λ (l : Line). l .readable) (sheet v calls) ≡ shownTags v newReader false calls
 unfolding sheet newEngine macOf noMac
-sheet-shown v calls = shown-from v calls (newEngine v) newReader (follows-new v)
+sheet-shown v calls = shown-from v calls (newEngine v) newReader (invariant-new v)
 
 -- The same of the engine as a machine.
 pub engine-shown : (v : SparkleVariant) (calls : List Call)

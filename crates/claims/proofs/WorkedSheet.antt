@@ -19,10 +19,10 @@ use Rattle.tc_aead_cipher.specs.Outcome.Outcome.{ok, no}
 use Rattle.claims.specs.Reader.{Verdict, newReader, read, notes, verdicts}
 use Rattle.claims.specs.Reader.Verdict.{Yes, No, None}
 use Rattle.claims.specs.Worked.{worked, row}
-use Rattle.claims.proofs.Kept.{Follows, follows-new}
+use Rattle.claims.proofs.Invariant.{Invariant, invariant-new}
 use Rattle.claims.proofs.PublicState.{Public, publicOf, next, next-is, lineBy, line-is}
 use Rattle.claims.proofs.Demand3.{askedAll, asked-are-notes}
-use Rattle.claims.proofs.EngineMeets.{linked, keeps}
+use Rattle.claims.proofs.EngineDemand3.{linked, keeps}
 
 -- Its verdicts: the first pair is new, the last repeats it.
 pub worked-verdicts : verdicts «Schwaemm128_128» worked
@@ -52,7 +52,7 @@ unfolding sheet verdicts
 sheet-public v calls =
     lines-public calls (newEngine v)
     ∙ ap (publicLines (publicOf (newEngine v)) (map shape calls))
-    (asked-are-notes v (Follows v) (linked v) (follows-new v) (keeps v) calls (newEngine v) newReader (follows-new v))
+    (asked-are-notes v (Invariant v) (linked v) (invariant-new v) (keeps v) calls (newEngine v) newReader (invariant-new v))
 
 pub worked-sheet : sheet «Schwaemm128_128» worked
     ≡ row (ok 0) 10 false

@@ -39,14 +39,15 @@ use Rattle.claims.specs.Reader.{Load, loadedKey, loadedNonce, readFrom, 
 use Rattle.claims.specs.Messages.{messageOf, headerIn, dataOf, countOf, outputs, Between, AllBetween, Each}
 use Rattle.claims.specs.Messages.{startedEngine, headerBytes, dataBytes, HeaderCall, DataCall, messageCalls, RoomFor}
 use Rattle.claims.specs.Messages.{Rooms, Ample, IsAccepted, Accepts, Completes, Rejects, RoundTrip}
-use Rattle.claims.proofs.Packets.{length-body}
-use Rattle.claims.proofs.Kept.{Follows, Standing, engineOf}
-use Rattle.claims.proofs.Follows.{kept, follows-step, follows-from, follows-run, aad-some, header-answer}
-use Rattle.claims.proofs.Follows.{update-answer, total-answer}
+use Rattle.claims.proofs.OpeningEnd.{length-body}
+use Rattle.claims.proofs.Invariant.{Invariant, PhaseInvariant, engineOf}
+use Rattle.claims.proofs.InvariantKept.{readerOf, invariant-step, invariant-from, invariant-run, aad-some}
+use Rattle.claims.proofs.InvariantKept.{header-answer, update-answer, total-answer}
 use Rattle.claims.proofs.Accepted.{active-opening}
-use Rattle.claims.proofs.Written.{outcome-ok, end-ended, message-outcome, seal-end, open-end}
-use Rattle.claims.proofs.Whole.{active-message, Going, startedReader, start-outcome, lastReader, start-follows}
-use Rattle.claims.proofs.Whole.{last-follows, last-going, sealed-taken, opened-taken}
+use Rattle.claims.proofs.CallOutputs.{outcome-ok, end-ended, message-outcome, seal-end, open-end}
+use Rattle.claims.proofs.UnrefusedMessages.{active-message, ActiveUnder, startedReader, start-outcome, lastReader}
+use Rattle.claims.proofs.UnrefusedMessages.{start-invariant, last-invariant, last-active, sealed-accepted}
+use Rattle.claims.proofs.UnrefusedMessages.{opened-accepted}
 
 -- ---- Room and acceptance
 
@@ -92,34 +93,34 @@ all-between e (c ∷ hs) ms bh bm = (header-between e c (bh .0), all-between (st
 -- ---- The header
 
 -- the phases before the data
-data Heading (d : Direction) : Phase → Type 0 where
-  heading-init : Heading d (Init d)
-  heading-aad : Heading d (Aad d)
+data BeforeData (d : Direction) : Phase → Type 0 where
+  before-init : BeforeData d (Init d)
+  before-aad : BeforeData d (Aad d)
 
-heading-check : {d : Direction} {phase : Phase} → Heading d phase → headerCheck phase ≡ Ok 0
-heading-check heading-init = refl
-heading-check heading-aad = refl
+before-data-check : {d : Direction} {phase : Phase} → BeforeData d phase → headerCheck phase ≡ Ok 0
+before-data-check before-init = refl
+before-data-check before-aad = refl
 
-heading-more : {d : Direction} {phase : Phase} → Heading d phase → (input : List ℕ) → Heading d (aadPhase phase input)
-heading-more t [] = t
-heading-more heading-init (x ∷ input) = heading-aad
-heading-more heading-aad (x ∷ input) = heading-aad
+before-data-more : {d : Direction} {phase : Phase} → BeforeData d phase → (input : List ℕ) → BeforeData d (aadPhase phase input)
+before-data-more t [] = t
+before-data-more before-init (x ∷ input) = before-aad
+before-data-more before-aad (x ∷ input) = before-aad
 
-aad-passes : {d : Direction} {phase : Phase} → Heading d phase → (input : List ℕ) → aadCheck phase (length input) ≡ Ok 0
+aad-passes : {d : Direction} {phase : Phase} → BeforeData d phase → (input : List ℕ) → aadCheck phase (length input) ≡ Ok 0
 unfolding aadCheck
 aad-passes t [] = refl
-aad-passes {phase = phase} t (x ∷ input) = aad-some phase (length input) ∙ heading-check t
+aad-passes {phase = phase} t (x ∷ input) = aad-some phase (length input) ∙ before-data-check t
 
 aad-answered : (k : AeadResult) (e : SparkleEngine) (input : List ℕ) → k ≡ Ok 0 → aadBy k e input .answer ≡ Ok 0
 aad-answered (Ok n) e [] h = refl
 aad-answered (Ok n) e (x ∷ input) h = refl
 aad-answered (Err x) e input h = h
 
-header-taken : (v : SparkleVariant) (e : SparkleEngine) (r : Reader) → Follows v e r → {d : Direction} → Heading d (r .phase)
+header-accepted : (v : SparkleVariant) (e : SparkleEngine) (r : Reader) → Invariant v e r → {d : Direction} → BeforeData d (r .phase)
     → (input : List ℕ)
     → step e (Call.Aad input) .outcome ≡ Outcome.ok 0
 unfolding step processAadBytes
-header-taken v e r w t input =
+header-accepted v e r w t input =
     let K = engineOf v r (w .mac) (w .count) in
     ap (λ (x : SparkleEngine). outcome (aadBy (aadCheck (x .current .phase) (length input)) x input .answer))
     (w .same-engine)
@@ -127,64 +128,64 @@ header-taken v e r w t input =
     (header-answer v r (w .mac) (w .count) (length input) ∙ aad-passes t input))
 
 -- what header calls leave
-record Headed (v : SparkleVariant) (d : Direction) (e : SparkleEngine) (r : Reader) (calls : List Call) : Type 0 where
-  taken : Accepts e calls
-  heading : Heading d (readFrom v r calls .phase)
+record HeadersAccepted (v : SparkleVariant) (d : Direction) (e : SparkleEngine) (r : Reader) (calls : List Call) : Type 0 where
+  accepted : Accepts e calls
+  before-data : BeforeData d (readFrom v r calls .phase)
   header-is : readFrom v r calls .header ≡ r .header ++ headerBytes calls
   body-is : readFrom v r calls .body ≡ r .body
 
 -- one call more
-absorb-more : (v : SparkleVariant) (d : Direction) (e : SparkleEngine) (r : Reader) (c : Call) (calls : List Call)
+headers-more : (v : SparkleVariant) (d : Direction) (e : SparkleEngine) (r : Reader) (c : Call) (calls : List Call)
     → IsAccepted c (step e c .outcome) → read v r c .reader .header ≡ r .header ++ headerIn c
     → read v r c .reader .body ≡ r .body
-    → Headed v d (step e c .engine) (read v r c .reader) calls → Headed v d e r (c ∷ calls)
+    → HeadersAccepted v d (step e c .engine) (read v r c .reader) calls → HeadersAccepted v d e r (c ∷ calls)
 unfolding readFrom
-absorb-more v d e r c calls t h b q =
+headers-more v d e r c calls t h b q =
     record {
-      taken = (t, q .taken);
-      heading = q .heading;
+      accepted = (t, q .accepted);
+      before-data = q .before-data;
       header-is =
           q .header-is ∙ ap (λ (l : List ℕ). l ++ headerBytes calls) h ∙ append-assoc (r .header) (headerIn c) (headerBytes calls);
       body-is = q .body-is ∙ b;
     }
 
-header-read : (v : SparkleVariant) (r : Reader) {d : Direction} → Heading d (r .phase) → (input : List ℕ)
+header-read : (v : SparkleVariant) (r : Reader) {d : Direction} → BeforeData d (r .phase) → (input : List ℕ)
     → read v r (Call.Aad input) .reader
-    ≡ kept (r .loads) (r .initial) (aadPhase (r .phase) input) (r .header ++ input) (r .body)
+    ≡ readerOf (r .loads) (r .initial) (aadPhase (r .phase) input) (r .header ++ input) (r .body)
 unfolding read
 header-read v r t input = ap (λ (k : AeadResult). readHeader k r input .reader) (aad-passes t input)
 
-headers-taken : (v : SparkleVariant) (d : Direction) (e : SparkleEngine) (r : Reader) → Follows v e r → Heading d (r .phase)
-    → (calls : List Call) → Each HeaderCall calls → Headed v d e r calls
+headers-accepted : (v : SparkleVariant) (d : Direction) (e : SparkleEngine) (r : Reader) → Invariant v e r → BeforeData d (r .phase)
+    → (calls : List Call) → Each HeaderCall calls → HeadersAccepted v d e r calls
 unfolding step read readFrom
-headers-taken v d e r w t [] b =
-    record { taken = tt; heading = t; header-is = sym (append-nil (r .header)); body-is = refl }
-headers-taken v d e r w t (Call.Init d' key nonce size h ∷ calls) b = absurd (b .0)
-headers-taken v d e r w t (Call.Aad input ∷ calls) b =
+headers-accepted v d e r w t [] b =
+    record { accepted = tt; before-data = t; header-is = sym (append-nil (r .header)); body-is = refl }
+headers-accepted v d e r w t (Call.Init d' key nonce size h ∷ calls) b = absurd (b .0)
+headers-accepted v d e r w t (Call.Aad input ∷ calls) b =
     let is = header-read v r t input in
-    let t' : Heading d (read v r (Call.Aad input) .reader .phase) =
-    subst (λ (x : Reader). Heading d (x .phase)) (sym is) (heading-more t input) in
-    absorb-more v d e r (Call.Aad input) calls (0, header-taken v e r w t input) (ap (λ (x : Reader). x .header) is)
+    let t' : BeforeData d (read v r (Call.Aad input) .reader .phase) =
+    subst (λ (x : Reader). BeforeData d (x .phase)) (sym is) (before-data-more t input) in
+    headers-more v d e r (Call.Aad input) calls (0, header-accepted v e r w t input) (ap (λ (x : Reader). x .header) is)
     (ap (λ (x : Reader). x .body) is)
-    (headers-taken v d (step e (Call.Aad input) .engine) (read v r (Call.Aad input) .reader)
-    (follows-step v e r w (Call.Aad input)) t' calls (b .1))
-headers-taken v d e r w t (Call.Data input out ∷ calls) b = absurd (b .0)
-headers-taken v d e r w t (Call.Final out ∷ calls) b = absurd (b .0)
-headers-taken v d e r w t (Call.Reset ∷ calls) b = absurd (b .0)
-headers-taken v d e r w t (Call.Mac ∷ calls) b =
-    absorb-more v d e r Call.Mac calls (countOf (step e Call.Mac .outcome), refl) (sym (append-nil (r .header))) refl
-    (headers-taken v d e r w t calls (b .1))
-headers-taken v d e r w t (Call.Update n ∷ calls) b =
-    absorb-more v d e r (Call.Update n) calls tt (sym (append-nil (r .header))) refl (headers-taken v d e r w t calls (b .1))
-headers-taken v d e r w t (Call.Output n ∷ calls) b =
-    absorb-more v d e r (Call.Output n) calls tt (sym (append-nil (r .header))) refl (headers-taken v d e r w t calls (b .1))
+    (headers-accepted v d (step e (Call.Aad input) .engine) (read v r (Call.Aad input) .reader)
+    (invariant-step v e r w (Call.Aad input)) t' calls (b .1))
+headers-accepted v d e r w t (Call.Data input out ∷ calls) b = absurd (b .0)
+headers-accepted v d e r w t (Call.Final out ∷ calls) b = absurd (b .0)
+headers-accepted v d e r w t (Call.Reset ∷ calls) b = absurd (b .0)
+headers-accepted v d e r w t (Call.Mac ∷ calls) b =
+    headers-more v d e r Call.Mac calls (countOf (step e Call.Mac .outcome), refl) (sym (append-nil (r .header))) refl
+    (headers-accepted v d e r w t calls (b .1))
+headers-accepted v d e r w t (Call.Update n ∷ calls) b =
+    headers-more v d e r (Call.Update n) calls tt (sym (append-nil (r .header))) refl (headers-accepted v d e r w t calls (b .1))
+headers-accepted v d e r w t (Call.Output n ∷ calls) b =
+    headers-more v d e r (Call.Output n) calls tt (sym (append-nil (r .header))) refl (headers-accepted v d e r w t calls (b .1))
 
 -- ---- The data
 
-takes-check : {d : Direction} {phase : Phase} → Active d phase → phaseCheck phase ≡ Ok 0
-takes-check Active.in-init = refl
-takes-check Active.in-aad = refl
-takes-check Active.in-data = refl
+active-check : {d : Direction} {phase : Phase} → Active d phase → phaseCheck phase ≡ Ok 0
+active-check Active.in-init = refl
+active-check Active.in-aad = refl
+active-check Active.in-data = refl
 
 room-enough : (a n : ℕ) → n ≤ a → room a n ≡ Ok n
 room-enough a n h = rw (le-ltb a n h)
@@ -194,17 +195,17 @@ data-passes : (p : Params) {d : Direction} {phase : Phase} → Active d phase �
     → dataCheck p phase held k a ≡ Ok n
 unfolding dataCheck
 data-passes p {phase = phase} t held k a n u h =
-    ap (λ (x : AeadResult). then x (λ _. then (updateLen p phase held k) (room a))) (takes-check t)
+    ap (λ (x : AeadResult). then x (λ _. then (updateLen p phase held k) (room a))) (active-check t)
     ∙ ap (λ (x : AeadResult). then x (room a)) u ∙ room-enough a n h
 
-pub update-outcome : (v : SparkleVariant) (e : SparkleEngine) (r : Reader) → Follows v e r → (k : ℕ)
+pub update-outcome : (v : SparkleVariant) (e : SparkleEngine) (r : Reader) → Invariant v e r → (k : ℕ)
     → step e (Call.Update k) .outcome ≡ outcome (updateLen (paramsOf v) (r .phase) (readerHeld (paramsOf v) r) k)
 unfolding step
 update-outcome v e r w k =
     ap (λ (x : SparkleEngine). outcome (updateOutputLen x k)) (w .same-engine) ∙ ap outcome
     (update-answer v r (w .mac) (w .count) k)
 
-pub total-outcome : (v : SparkleVariant) (e : SparkleEngine) (r : Reader) → Follows v e r → (k : ℕ)
+pub total-outcome : (v : SparkleVariant) (e : SparkleEngine) (r : Reader) → Invariant v e r → (k : ℕ)
     → step e (Call.Output k) .outcome ≡ outcome (totalLen (paramsOf v) (r .phase) (readerHeld (paramsOf v) r) k)
 unfolding step
 total-outcome v e r w k =
@@ -262,7 +263,7 @@ rooms-ample e [] a = tt
 rooms-ample e (c ∷ calls) a = (room-ample e c (a .0), rooms-ample (step e c .engine) calls (a .1))
 
 -- what a data call with room answers
-message-passes : (v : SparkleVariant) (e : SparkleEngine) (r : Reader) → Follows v e r → {d : Direction} → Active d (r .phase)
+message-passes : (v : SparkleVariant) (e : SparkleEngine) (r : Reader) → Invariant v e r → {d : Direction} → Active d (r .phase)
     → (input out : List ℕ) → RoomFor e (Call.Data input out)
     → (n : ℕ) × (dataCheck (paramsOf v) (r .phase) (readerHeld (paramsOf v) r) (length input) (length out) ≡ Ok n)
 message-passes v e r w t input out enough =
@@ -274,52 +275,52 @@ message-passes v e r w t input out enough =
     (n, data-passes p t h k (length out) n u (enough .2))
 
 -- what data calls leave
-record Carried (v : SparkleVariant) (e : SparkleEngine) (r : Reader) (calls : List Call) : Type 0 where
-  taken : Accepts e calls
+record DataAccepted (v : SparkleVariant) (e : SparkleEngine) (r : Reader) (calls : List Call) : Type 0 where
+  accepted : Accepts e calls
   header-is : readFrom v r calls .header ≡ r .header
   body-is : readFrom v r calls .body ≡ r .body ++ dataBytes calls
 
-carried-more : (v : SparkleVariant) (e : SparkleEngine) (r : Reader) (c : Call) (calls : List Call)
+data-more : (v : SparkleVariant) (e : SparkleEngine) (r : Reader) (c : Call) (calls : List Call)
     → IsAccepted c (step e c .outcome) → read v r c .reader .header ≡ r .header
     → read v r c .reader .body ≡ r .body ++ dataOf c
-    → Carried v (step e c .engine) (read v r c .reader) calls → Carried v e r (c ∷ calls)
+    → DataAccepted v (step e c .engine) (read v r c .reader) calls → DataAccepted v e r (c ∷ calls)
 unfolding readFrom
-carried-more v e r c calls t h b q =
+data-more v e r c calls t h b q =
     record {
-      taken = (t, q .taken);
+      accepted = (t, q .accepted);
       header-is = q .header-is ∙ h;
       body-is = q .body-is ∙ ap (λ (l : List ℕ). l ++ dataBytes calls) b ∙ append-assoc (r .body) (dataOf c) (dataBytes calls);
     }
 
-datas-taken : (v : SparkleVariant) (d : Direction) (e : SparkleEngine) (r : Reader) → Follows v e r → Active d (r .phase)
+data-accepted : (v : SparkleVariant) (d : Direction) (e : SparkleEngine) (r : Reader) → Invariant v e r → Active d (r .phase)
     → (calls : List Call) → Each DataCall calls → Rooms e calls
-    → Carried v e r calls
+    → DataAccepted v e r calls
 unfolding step read readFrom
-datas-taken v d e r w t [] b rooms = record { taken = tt; header-is = refl; body-is = sym (append-nil (r .body)) }
-datas-taken v d e r w t (Call.Init d' key nonce size h ∷ calls) b rooms = absurd (b .0)
-datas-taken v d e r w t (Call.Aad input ∷ calls) b rooms = absurd (b .0)
-datas-taken v d e r w t (Call.Data input out ∷ calls) b rooms =
+data-accepted v d e r w t [] b rooms = record { accepted = tt; header-is = refl; body-is = sym (append-nil (r .body)) }
+data-accepted v d e r w t (Call.Init d' key nonce size h ∷ calls) b rooms = absurd (b .0)
+data-accepted v d e r w t (Call.Aad input ∷ calls) b rooms = absurd (b .0)
+data-accepted v d e r w t (Call.Data input out ∷ calls) b rooms =
     let q = message-passes v e r w t input out (rooms .0) in
     let is = ap (λ (k : AeadResult). readMessage k r input .reader) (q .1) in
     let t' : Active d (read v r (Call.Data input out) .reader .phase) =
     subst (λ (x : Reader). Active d (x .phase)) (sym is) (active-message t) in
     let body-is : read v r (Call.Data input out) .reader .body ≡ r .body ++ input =
     ap (λ (x : Reader). x .body) is in
-    carried-more v e r (Call.Data input out) calls
+    data-more v e r (Call.Data input out) calls
     (q .0, message-outcome v e r w input out ∙ ap outcome (q .1)) (ap (λ (x : Reader). x .header) is) body-is
-    (datas-taken v d (step e (Call.Data input out) .engine) (read v r (Call.Data input out) .reader)
-    (follows-step v e r w (Call.Data input out)) t' calls (b .1) (rooms .1))
-datas-taken v d e r w t (Call.Final out ∷ calls) b rooms = absurd (b .0)
-datas-taken v d e r w t (Call.Reset ∷ calls) b rooms = absurd (b .0)
-datas-taken v d e r w t (Call.Mac ∷ calls) b rooms =
-    carried-more v e r Call.Mac calls (countOf (step e Call.Mac .outcome), refl) refl (sym (append-nil (r .body)))
-    (datas-taken v d e r w t calls (b .1) (rooms .1))
-datas-taken v d e r w t (Call.Update n ∷ calls) b rooms =
-    carried-more v e r (Call.Update n) calls tt refl (sym (append-nil (r .body)))
-    (datas-taken v d e r w t calls (b .1) (rooms .1))
-datas-taken v d e r w t (Call.Output n ∷ calls) b rooms =
-    carried-more v e r (Call.Output n) calls tt refl (sym (append-nil (r .body)))
-    (datas-taken v d e r w t calls (b .1) (rooms .1))
+    (data-accepted v d (step e (Call.Data input out) .engine) (read v r (Call.Data input out) .reader)
+    (invariant-step v e r w (Call.Data input out)) t' calls (b .1) (rooms .1))
+data-accepted v d e r w t (Call.Final out ∷ calls) b rooms = absurd (b .0)
+data-accepted v d e r w t (Call.Reset ∷ calls) b rooms = absurd (b .0)
+data-accepted v d e r w t (Call.Mac ∷ calls) b rooms =
+    data-more v e r Call.Mac calls (countOf (step e Call.Mac .outcome), refl) refl (sym (append-nil (r .body)))
+    (data-accepted v d e r w t calls (b .1) (rooms .1))
+data-accepted v d e r w t (Call.Update n ∷ calls) b rooms =
+    data-more v e r (Call.Update n) calls tt refl (sym (append-nil (r .body)))
+    (data-accepted v d e r w t calls (b .1) (rooms .1))
+data-accepted v d e r w t (Call.Output n ∷ calls) b rooms =
+    data-more v e r (Call.Output n) calls tt refl (sym (append-nil (r .body)))
+    (data-accepted v d e r w t calls (b .1) (rooms .1))
 
 -- ---- The end
 
@@ -329,11 +330,11 @@ end-passes : (p : Params) {d : Direction} {phase : Phase} → Active d phase →
 unfolding endCheck
 end-passes p {phase = phase} t held a n u h q =
     ap (λ (x : AeadResult). then x (λ _. then (then (totalLen p phase held 0) (room a)) (whole p phase held)))
-    (takes-check t)
+    (active-check t)
     ∙ ap (λ (x : AeadResult). then (then x (room a)) (whole p phase held)) u
     ∙ ap (λ (x : AeadResult). then x (whole p phase held)) (room-enough a n h) ∙ q
 
-seal-passes : (v : SparkleVariant) (e : SparkleEngine) (r : Reader) → Follows v e r → Active Encrypt (r .phase)
+seal-passes : (v : SparkleVariant) (e : SparkleEngine) (r : Reader) → Invariant v e r → Active Encrypt (r .phase)
     → (out : List ℕ)
     → RoomFor e (Call.Final out) → (n : ℕ) × (endCheck (paramsOf v) (r .phase) (readerHeld (paramsOf v) r) (length out) ≡ Ok n)
 seal-passes v e r w t out enough =
@@ -354,8 +355,8 @@ rest-tag rate keep n h = omega (arith, div-mul-le-self (n - (keep + 1)) rate)
 
 active-held : (p : Params) → Sizes p → {phase : Phase} → Active Decrypt phase
     → (loads : List Load) (initial header body : List ℕ) (mac : Mac) (c : ℕ)
-    → Standing p phase loads initial header body mac c → p .key ≤ length body
-    → p .key ≤ heldData p phase (readerHeld p (kept loads initial phase header body))
+    → PhaseInvariant p phase loads initial header body mac c → p .key ≤ length body
+    → p .key ≤ heldData p phase (readerHeld p (readerOf loads initial phase header body))
 active-held p s Active.in-init loads initial header body mac c st enough =
     absurd (omega (arith, ap length (st .4)))
 active-held p s Active.in-aad loads initial header body mac c st enough =
@@ -363,7 +364,7 @@ active-held p s Active.in-aad loads initial header body mac c st enough =
 active-held p s Active.in-data loads initial header body mac c st enough =
     omega (arith, rest-tag (p .rate) (p .key) (length body) enough)
 
-open-passes : (v : SparkleVariant) (e : SparkleEngine) (r : Reader) → Follows v e r → Active Decrypt (r .phase)
+open-passes : (v : SparkleVariant) (e : SparkleEngine) (r : Reader) → Invariant v e r → Active Decrypt (r .phase)
     → (out : List ℕ)
     → RoomFor e (Call.Final out) → paramsOf v .key ≤ length (r .body)
     → (n : ℕ) × (endCheck (paramsOf v) (r .phase) (readerHeld (paramsOf v) r) (length out) ≡ Ok n)
@@ -374,7 +375,7 @@ open-passes v e r w t out enough tagged =
     let u : totalLen p (r .phase) h 0 ≡ Ok n = outcome-ok _ n (sym (total-outcome v e r w 0) ∙ enough .1) in
     let k =
     active-held p (sizes v) t (r .loads) (r .initial) (r .header) (r .body) (w .mac) (w .count)
-    (w .standing) tagged in (
+    (w .phase-invariant) tagged in (
       n,
       end-passes p t h (length out) n u (enough .2)
           (whole-open p (r .phase) h n (active-opening t) k),
@@ -392,36 +393,36 @@ unfolding readFrom
 read-append v r [] ys = refl
 read-append v r (c ∷ xs) ys = read-append v (read v r c .reader) xs ys
 
-start-heading : (d : Direction) (initial : List ℕ) → Heading d (headerPhase d initial)
-start-heading d [] = heading-init
-start-heading d (x ∷ initial) = heading-aad
+start-before-data : (d : Direction) (initial : List ℕ) → BeforeData d (headerPhase d initial)
+start-before-data d [] = before-init
+start-before-data d (x ∷ initial) = before-aad
 
-heading-takes : {d : Direction} {phase : Phase} → Heading d phase → Active d phase
-heading-takes heading-init = Active.in-init
-heading-takes heading-aad = Active.in-aad
+before-data-active : {d : Direction} {phase : Phase} → BeforeData d phase → Active d phase
+before-data-active before-init = Active.in-init
+before-data-active before-aad = Active.in-aad
 
--- header and data calls after a start that is taken
-record Arrived (v : SparkleVariant) (before : List Call) (d : Direction) (key nonce initial : List ℕ) (e : SparkleEngine)
+-- header and data calls after an accepted start
+record MessageAccepted (v : SparkleVariant) (before : List Call) (d : Direction) (key nonce initial : List ℕ) (e : SparkleEngine)
     (hs ms : List Call) : Type 0 where
-  taken : Accepts e (hs ++ ms)
+  accepted : Accepts e (hs ++ ms)
   header-is : lastReader v before d key nonce initial (hs ++ ms) .header ≡ initial ++ headerBytes hs
   body-is : lastReader v before d key nonce initial (hs ++ ms) .body ≡ dataBytes ms
 
-arrived : (v : SparkleVariant) (before : List Call) (d : Direction) (key nonce initial : List ℕ) (e : SparkleEngine)
-    → Follows v e (startedReader (reader v before) d key nonce initial)
+message-accepted : (v : SparkleVariant) (before : List Call) (d : Direction) (key nonce initial : List ℕ) (e : SparkleEngine)
+    → Invariant v e (startedReader (reader v before) d key nonce initial)
     → (hs ms : List Call) → Each HeaderCall hs → Each DataCall ms → Rooms e (hs ++ ms)
-    → Arrived v before d key nonce initial e hs ms
-arrived v before d key nonce initial e w hs ms bh bm rooms =
+    → MessageAccepted v before d key nonce initial e hs ms
+message-accepted v before d key nonce initial e w hs ms bh bm rooms =
     let p = paramsOf v in
     let r1 = startedReader (reader v before) d key nonce initial in
     let r2 = readFrom v r1 hs in
     let room = rooms-append e hs ms rooms in
-    let hq = headers-taken v d e r1 w (start-heading d initial) hs bh in
-    let dq = datas-taken v d (runFrom e hs) r2 (follows-from v e r1 w hs) (heading-takes (hq .heading)) ms bm
+    let hq = headers-accepted v d e r1 w (start-before-data d initial) hs bh in
+    let dq = data-accepted v d (runFrom e hs) r2 (invariant-from v e r1 w hs) (before-data-active (hq .before-data)) ms bm
     (room .1) in
     let is = read-append v r1 hs ms in
     record {
-      taken = accepts-append e hs ms (hq .taken) (dq .taken);
+      accepted = accepts-append e hs ms (hq .accepted) (dq .accepted);
       header-is = ap (λ (x : Reader). x .header) is ∙ dq .header-is ∙ hq .header-is;
       body-is = ap (λ (x : Reader). x .body) is ∙ dq .body-is ∙ ap (λ (l : List ℕ). l ++ dataBytes ms) (hq .body-is);
     }
@@ -434,11 +435,11 @@ module _ (v : SparkleVariant) (before : List Call) (key nonce : List ℕ) (size 
   between : (d : Direction) → AllBetween (startedEngine v before d key nonce size initial) (hs ++ ms)
   between d = all-between (startedEngine v before d key nonce size initial) hs ms bh bm
 
-  -- a start that is taken
+  -- an accepted start
   sealing-starts : repeated (reader v before) key nonce ≡ false
       → step (run v before) (Call.Init Encrypt key nonce size initial) .outcome ≡ Outcome.ok 0
   sealing-starts fresh =
-      start-outcome v (run v before) (reader v before) (follows-run v before) Encrypt key nonce size initial
+      start-outcome v (run v before) (reader v before) (invariant-run v before) Encrypt key nonce size initial
       ∙ ap startOutcome
       (startCheck-sealing v Encrypt (length key) (length nonce) size
       (repeated (reader v before) key nonce) key-fits nonce-fits size-fits refl
@@ -446,7 +447,7 @@ module _ (v : SparkleVariant) (before : List Call) (key nonce : List ℕ) (size 
 
   opening-starts : step (run v before) (Call.Init Decrypt key nonce size initial) .outcome ≡ Outcome.ok 0
   opening-starts =
-      start-outcome v (run v before) (reader v before) (follows-run v before) Decrypt key nonce size initial
+      start-outcome v (run v before) (reader v before) (invariant-run v before) Decrypt key nonce size initial
       ∙ ap startOutcome
       (startCheck-opening v Decrypt (length key) (length nonce) size
       (repeated (reader v before) key nonce) key-fits nonce-fits size-fits refl)
@@ -458,17 +459,17 @@ module _ (v : SparkleVariant) (before : List Call) (key nonce : List ℕ) (size 
         × Rooms (runFrom (startedEngine v before d key nonce size initial) (hs ++ ms)) (Call.Final out ∷ [])
     end-room = rooms-append (startedEngine v before d key nonce size initial) (hs ++ ms) (Call.Final out ∷ []) (rooms .1)
 
-    ready-end : Arrived v before d key nonce initial (startedEngine v before d key nonce size initial) hs ms
+    ready-end : MessageAccepted v before d key nonce initial (startedEngine v before d key nonce size initial) hs ms
     ready-end =
-        arrived v before d key nonce initial (startedEngine v before d key nonce size initial)
-        (start-follows v before d key nonce size initial (hs ++ ms) out 0 o (between d)) hs ms bh bm (end-room .0)
+        message-accepted v before d key nonce initial (startedEngine v before d key nonce size initial)
+        (start-invariant v before d key nonce size initial (hs ++ ms) out 0 o (between d)) hs ms bh bm (end-room .0)
 
-    end-follows : Follows v (runFrom (startedEngine v before d key nonce size initial) (hs ++ ms))
+    end-invariant : Invariant v (runFrom (startedEngine v before d key nonce size initial) (hs ++ ms))
         (lastReader v before d key nonce initial (hs ++ ms))
-    end-follows = last-follows v before d key nonce size initial (hs ++ ms) out 0 o (between d)
+    end-invariant = last-invariant v before d key nonce size initial (hs ++ ms) out 0 o (between d)
 
-    end-going : Going d key nonce (lastReader v before d key nonce initial (hs ++ ms))
-    end-going = last-going v before d key nonce size initial (hs ++ ms) out 0 o (between d)
+    end-active : ActiveUnder d key nonce (lastReader v before d key nonce initial (hs ++ ms))
+    end-active = last-active v before d key nonce size initial (hs ++ ms) out 0 o (between d)
 
     -- what is said of the last reader's parts is said of what was handed in
     in-parts : (A : Type 0) (g : (key nonce header body : List ℕ) → A)
@@ -476,7 +477,7 @@ module _ (v : SparkleVariant) (before : List Call) (key nonce : List ℕ) (size 
         ≡ g key nonce (initial ++ headerBytes hs) (dataBytes ms)
     in-parts A g =
         let r = lastReader v before d key nonce initial (hs ++ ms) in
-        ap₂ (λ (x y : List ℕ). g x y (r .header) (r .body)) (end-going .key-is) (end-going .nonce-is)
+        ap₂ (λ (x y : List ℕ). g x y (r .header) (r .body)) (end-active .key-is) (end-active .nonce-is)
         ∙ ap₂ (λ (x y : List ℕ). g key nonce x y) (ready-end .header-is) (ready-end .body-is)
 
     -- the engine after the whole list
@@ -498,8 +499,8 @@ module _ (v : SparkleVariant) (before : List Call) (key nonce : List ℕ) (size 
       let p = paramsOf v in
       let r = lastReader v before Encrypt key nonce initial (hs ++ ms) in
       let o = sealing-starts fresh in
-      let w = end-follows Encrypt o rooms in
-      let t = end-going Encrypt o rooms .takes in
+      let w = end-invariant Encrypt o rooms in
+      let t = end-active Encrypt o rooms .active in
       let a = ready-end Encrypt o rooms in
       let q = seal-passes v _ r w t out (end-room Encrypt o rooms .1 .0) in
       let f = seal-end v _ r w out (q .0) (q .1) (active-opening t) .outcome-is in
@@ -508,9 +509,9 @@ module _ (v : SparkleVariant) (before : List Call) (key nonce : List ℕ) (size 
       ap (λ (b : Bool). cond b (decrypt p (loadedKey r) (loadedNonce r) (r .header) (bodyOf p (r .body))) (r .body))
       (active-opening t) in
       record {
-        accepted = ((0, o), accepts-append _ (hs ++ ms) (Call.Final out ∷ []) (a .taken) ((q .0, f), tt));
+        accepted = ((0, o), accepts-append _ (hs ++ ms) (Call.Final out ∷ []) (a .accepted) ((q .0, f), tt));
         bytes-are =
-            sealed-taken v before key nonce size initial (hs ++ ms) out 0 (q .0) o (between Encrypt) f
+            sealed-accepted v before key nonce size initial (hs ++ ms) out 0 (q .0) o (between Encrypt) f
             ∙ ap₂ (λ (x y : List ℕ). seal p key nonce x y) (a .header-is) (a .body-is);
         tag-is =
             ap macOf (whole-run Encrypt o rooms) ∙ z .mac-is
@@ -533,7 +534,7 @@ module _ (v : SparkleVariant) (before : List Call) (key nonce : List ℕ) (size 
         × (endCheck (paramsOf v) (lastReader v before Decrypt key nonce initial (hs ++ ms) .phase)
         (readerHeld (paramsOf v) (lastReader v before Decrypt key nonce initial (hs ++ ms))) (length out) ≡ Ok n)
     open-checked =
-        open-passes v _ _ (end-follows Decrypt opening-starts rooms) (end-going Decrypt opening-starts rooms .takes) out
+        open-passes v _ _ (end-invariant Decrypt opening-starts rooms) (end-active Decrypt opening-starts rooms .active) out
         (end-room Decrypt opening-starts rooms .1 .0) (omega (arith, ap length (ready-end Decrypt opening-starts rooms .body-is)))
 
     -- the message is what the packet decrypts to
@@ -544,7 +545,7 @@ module _ (v : SparkleVariant) (before : List Call) (key nonce : List ℕ) (size 
         let p = paramsOf v in
         let r = lastReader v before Decrypt key nonce initial (hs ++ ms) in
         ap (λ (b : Bool). cond b (decrypt p (loadedKey r) (loadedNonce r) (r .header) (bodyOf p (r .body))) (r .body))
-        (active-opening (end-going Decrypt opening-starts rooms .takes))
+        (active-opening (end-active Decrypt opening-starts rooms .active))
         ∙ in-parts Decrypt opening-starts rooms (List ℕ) (λ k n x y. decrypt p k n x (bodyOf p y))
 
     open-steps : (e : SparkleEngine) → stepsNow e
@@ -570,8 +571,8 @@ module _ (v : SparkleVariant) (before : List Call) (key nonce : List ℕ) (size 
       open-outcome : step (runFrom (startedEngine v before Decrypt key nonce size initial) (hs ++ ms)) (Call.Final out) .outcome
           ≡ cond g (Outcome.ok (open-checked .0)) (Outcome.no (6 ∷ []))
       open-outcome =
-          open-end v _ _ (end-follows Decrypt opening-starts rooms) out (open-checked .0) (open-checked .1)
-          (active-opening (end-going Decrypt opening-starts rooms .takes)) .outcome-is
+          open-end v _ _ (end-invariant Decrypt opening-starts rooms) out (open-checked .0) (open-checked .1)
+          (active-opening (end-active Decrypt opening-starts rooms .active)) .outcome-is
           ∙ ap (λ (b : Bool). cond b (Outcome.ok (open-checked .0)) (Outcome.no (6 ∷ []))) open-verdict
 
       open-mac : macOf
@@ -582,8 +583,8 @@ module _ (v : SparkleVariant) (before : List Call) (key nonce : List ℕ) (size 
           let p = paramsOf v in
           let r = lastReader v before Decrypt key nonce initial (hs ++ ms) in
           let H = initial ++ headerBytes hs in
-          let z = end-ended v _ r (end-follows Decrypt opening-starts rooms) out (open-checked .0) (open-checked .1) in
-          let t = active-opening (end-going Decrypt opening-starts rooms .takes) in
+          let z = end-ended v _ r (end-invariant Decrypt opening-starts rooms) out (open-checked .0) (open-checked .1) in
+          let t = active-opening (end-active Decrypt opening-starts rooms .active) in
           z .mac-is
           ∙ ap₂ (λ (b : Bool) (x : List ℕ). cond (cond b (verified p (loadedKey r) (loadedNonce r) (r .header) (r .body)) true)
           (readable (tag p (loadedKey r) (loadedNonce r) (r .header) x)) noMac)
@@ -601,15 +602,15 @@ module _ (v : SparkleVariant) (before : List Call) (key nonce : List ℕ) (size 
         let p = paramsOf v in
         let o = opening-starts in
         let a = ready-end Decrypt o rooms in
-        let z = end-ended v _ _ (end-follows Decrypt o rooms) out (open-checked .0) (open-checked .1) in
+        let z = end-ended v _ _ (end-invariant Decrypt o rooms) out (open-checked .0) (open-checked .1) in
         record {
           accepted = (
             (0, o),
-            accepts-append _ (hs ++ ms) (Call.Final out ∷ []) (a .taken)
+            accepts-append _ (hs ++ ms) (Call.Final out ∷ []) (a .accepted)
                 ((open-checked .0, open-outcome true good), tt),
           );
           bytes-are =
-              opened-taken v before key nonce size initial (hs ++ ms) out 0 (open-checked .0) o (between Decrypt)
+              opened-accepted v before key nonce size initial (hs ++ ms) out 0 (open-checked .0) o (between Decrypt)
               (open-outcome true good) .bytes-are
               ∙ ap₂ (λ (x y : List ℕ). decrypt p key nonce x (bodyOf p y)) (a .header-is) (a .body-is);
           tag-is = ap macOf (whole-run Decrypt o rooms) ∙ open-mac true good;
@@ -624,11 +625,11 @@ module _ (v : SparkleVariant) (before : List Call) (key nonce : List ℕ) (size 
     rejected bad =
         let o = opening-starts in
         let a = ready-end Decrypt o rooms in
-        let w = end-follows Decrypt o rooms in
-        let t = active-opening (end-going Decrypt o rooms .takes) in
+        let w = end-invariant Decrypt o rooms in
+        let t = active-opening (end-active Decrypt o rooms .active) in
         let z = end-ended v _ _ w out (open-checked .0) (open-checked .1) in
         record {
-          accepted = ((0, o), a .taken);
+          accepted = ((0, o), a .accepted);
           outcome-is = open-outcome false bad;
           zeros-are = (
             open-checked .0,

@@ -1,4 +1,4 @@
--- The invariant `Follows` gives what `Linked` states; with it demand 3 and the answers of demand 2 hold of the engine.
+-- The invariant gives what `Linked` states; with it demand 3 and the answers of demand 2 hold of the engine.
 use mathlib.Core.Path.{_≡_, refl, sym, ap, subst, _∙_}
 use mathlib.Core.Logic.{_↔_}
 use mathlib.Core.Bool.{true}
@@ -31,14 +31,15 @@ use Rattle.claims.specs.Messages.{answerOf}
 use Rattle.claims.specs.Refused.{Active, Failed}
 use Rattle.claims.specs.Refused.Active.{in-data}
 use Rattle.claims.specs.Machine.{engine, after, Demand3}
-use Rattle.claims.proofs.Kept.{Follows, Standing, engineOf, pointIn, follows-new, headPoint, dataPoint, Remembers}
-use Rattle.claims.proofs.Kept.{pointHeld, repeats-agree, held-agrees, phase-agrees, end-enough}
-use Rattle.claims.proofs.Follows.{kept, follows-step, follows-run, begin-data, active-loaded, opening-verified}
+use Rattle.claims.proofs.Invariant.{Invariant, PhaseInvariant, engineOf, pointIn, invariant-new, headPoint, dataPoint}
+use Rattle.claims.proofs.Invariant.{LoadsFit, pointHeld, repeats-agree, held-agrees, phase-agrees, end-enough}
+use Rattle.claims.proofs.InvariantKept.{readerOf, invariant-step, invariant-run, begin-data, active-loaded}
+use Rattle.claims.proofs.InvariantKept.{opening-verified}
 use Rattle.claims.proofs.Points.{blockPoint}
 use Rattle.claims.proofs.PublicState.{length-inArray}
 use Rattle.claims.proofs.Demand1.{six-leaves}
 use Rattle.claims.proofs.Demand3.{Linked, sheets-and-verdicts, first-sheets-and-verdicts}
-use Rattle.claims.proofs.Meets.{engine-answers, engine-meets-3}
+use Rattle.claims.proofs.MachineDemand3.{engine-answers, engine-meets-3}
 
 -- the held bytes count in Data, where point and reader agree
 held-linked : (p : Params) (key nonce header body : List ℕ) (phase : Phase)
@@ -51,7 +52,7 @@ held-linked p key nonce header body (Data d) = ap (heldData p (Data d)) (held-ag
 held-linked p key nonce header body (Final d) = refl
 
 module _ (v : SparkleVariant) (loads : List Load) (initial header body : List ℕ) (mac : Mac) (n : ℕ)
-    (f : Remembers (paramsOf v) loads) where
+    (f : LoadsFit (paramsOf v) loads) where
   abbrev key : List ℕ
   key = lastKey loads
 
@@ -59,20 +60,20 @@ module _ (v : SparkleVariant) (loads : List Load) (initial header body : List �
   nonce = lastNonce loads
 
   -- an opening in a phase that takes an end, with a tag's bytes
-  tag-takes : {phase : Phase} → Active Decrypt phase → Standing (paramsOf v) phase loads initial header body mac n
+  tag-active : {phase : Phase} → Active Decrypt phase → PhaseInvariant (paramsOf v) phase loads initial header body mac n
       → paramsOf v .key ≤ length body
-      → same (receivedTag (beginData (engineOf v (kept loads initial phase header body) mac n)))
-      (openTag (beginData (engineOf v (kept loads initial phase header body) mac n)))
+      → same (receivedTag (beginData (engineOf v (readerOf loads initial phase header body) mac n)))
+      (openTag (beginData (engineOf v (readerOf loads initial phase header body) mac n)))
       ≡ verified (paramsOf v) key nonce header body
-  tag-takes {phase} t st enough =
+  tag-active {phase} t st enough =
       ap (λ (e : SparkleEngine). same (receivedTag e) (openTag e)) (begin-data v loads initial f t header body mac n st)
       ∙ opening-verified v loads initial f (active-loaded v loads initial f t header body mac n st) header body enough
 
-  tag-linked : (phase : Phase) → Standing (paramsOf v) phase loads initial header body mac n → (available k : ℕ)
-      → endCheck (paramsOf v) phase (readerHeld (paramsOf v) (kept loads initial phase header body)) available ≡ Ok k
+  tag-linked : (phase : Phase) → PhaseInvariant (paramsOf v) phase loads initial header body mac n → (available k : ℕ)
+      → endCheck (paramsOf v) phase (readerHeld (paramsOf v) (readerOf loads initial phase header body)) available ≡ Ok k
       → opening phase ≡ true
-      → same (receivedTag (beginData (engineOf v (kept loads initial phase header body) mac n)))
-      (openTag (beginData (engineOf v (kept loads initial phase header body) mac n)))
+      → same (receivedTag (beginData (engineOf v (readerOf loads initial phase header body) mac n)))
+      (openTag (beginData (engineOf v (readerOf loads initial phase header body) mac n)))
       ≡ verified (paramsOf v) key nonce header body
   unfolding endCheck
   tag-linked Uninitialized st available k passed opens = absurd (let z : _≡_ {A = ℕ} 0 1 = cc in omega arith)
@@ -90,12 +91,12 @@ module _ (v : SparkleVariant) (loads : List Load) (initial header body : List �
       absurd (omega arith)
   tag-linked (Data Decrypt) st available k passed opens =
       let h = end-enough (paramsOf v) (Data Decrypt)
-      (readerHeld (paramsOf v) (kept loads initial (Data Decrypt) header body)) available k refl passed in
-      tag-takes in-data st (omega arith)
+      (readerHeld (paramsOf v) (readerOf loads initial (Data Decrypt) header body)) available k refl passed in
+      tag-active in-data st (omega arith)
 
 module _ (v : SparkleVariant) (r : Reader) (mac : Mac) (n : ℕ)
-    (f : Remembers (paramsOf v) (r .loads))
-    (st : Standing (paramsOf v) (r .phase) (r .loads) (r .initial) (r .header) (r .body) mac n) where
+    (f : LoadsFit (paramsOf v) (r .loads))
+    (st : PhaseInvariant (paramsOf v) (r .phase) (r .loads) (r .initial) (r .header) (r .body) mac n) where
   engine-linked : Linked v (engineOf v r mac n) r
   engine-linked =
       record {
@@ -106,29 +107,29 @@ module _ (v : SparkleVariant) (r : Reader) (mac : Mac) (n : ℕ)
         tag = tag-linked v (r .loads) (r .initial) (r .header) (r .body) mac n f (r .phase) st;
       }
 
-pub linked : (v : SparkleVariant) (e : SparkleEngine) (r : Reader) → Follows v e r → Linked v e r
+pub linked : (v : SparkleVariant) (e : SparkleEngine) (r : Reader) → Invariant v e r → Linked v e r
 linked v e r w =
-    subst (λ (x : SparkleEngine). Linked v x r) (sym (w .same-engine)) (engine-linked v r (w .mac) (w .count) (w .fits) (w .standing))
+    subst (λ (x : SparkleEngine). Linked v x r) (sym (w .same-engine)) (engine-linked v r (w .mac) (w .count) (w .loads-fit) (w .phase-invariant))
 
-pub keeps : (v : SparkleVariant) (e : SparkleEngine) (r : Reader) (c : Call) → Follows v e r
-    → Follows v (step e c .engine) (read v r c .reader)
-keeps v e r c w = follows-step v e r w c
+pub keeps : (v : SparkleVariant) (e : SparkleEngine) (r : Reader) (c : Call) → Invariant v e r
+    → Invariant v (step e c .engine) (read v r c .reader)
+keeps v e r c w = invariant-step v e r w c
 
 -- Demand 3: two lists alike have equal sheets exactly where they have equal verdicts, and so their first k calls.
 pub demand-3 : (v : SparkleVariant) (xs ys : List Call) → Alike xs ys → (sheet v xs ≡ sheet v ys) ↔ (verdicts v xs ≡ verdicts v ys)
-demand-3 v = sheets-and-verdicts v (Follows v) (linked v) (follows-new v) (keeps v)
+demand-3 v = sheets-and-verdicts v (Invariant v) (linked v) (invariant-new v) (keeps v)
 
 pub demand-3-call-by-call : (v : SparkleVariant) (k : ℕ) (xs ys : List Call) → Alike xs ys
     → (take k (sheet v xs) ≡ take k (sheet v ys)) ↔ (take k (verdicts v xs) ≡ take k (verdicts v ys))
-demand-3-call-by-call v = first-sheets-and-verdicts v (Follows v) (linked v) (follows-new v) (keeps v)
+demand-3-call-by-call v = first-sheets-and-verdicts v (Invariant v) (linked v) (invariant-new v) (keeps v)
 
 pub engine-demand-3 : Demand3 engine
-engine-demand-3 = engine-meets-3 Follows linked follows-new keeps
+engine-demand-3 = engine-meets-3 Invariant linked invariant-new keeps
 
 -- Demand 2, the answers: every call but mac, after every list of calls, is answered as the tables say.
 pub engine-answered : (v : SparkleVariant) (before : List Call) (c : Call) → (c ≡ Call.Mac → ⊥)
     → engine .step (after engine (engine .new v) before) c .line .outcome ≡ answerOf v (reader v before) c
-engine-answered = engine-answers Follows linked follows-new keeps
+engine-answered = engine-answers Invariant linked invariant-new keeps
 
 -- Demand 1, the failed tag: the engine's buffer is an array of 64 bytes, so 6 leaves what `Failed` says after every list
 -- of calls.
@@ -144,7 +145,7 @@ point-array p (Final d) key nonce header body = refl
 pub run-array : (v : SparkleVariant) (calls : List Call) → length (run v calls .current .buffer) ≡ 64
 run-array v calls =
     let r = reader v calls in
-    ap (λ (e : SparkleEngine). length (e .current .buffer)) (follows-run v calls .same-engine)
+    ap (λ (e : SparkleEngine). length (e .current .buffer)) (invariant-run v calls .same-engine)
     ∙ point-array (paramsOf v) (r .phase) (loadedKey r) (loadedNonce r) (r .header) (r .body)
 
 pub run-six-leaves : (v : SparkleVariant) (calls : List Call) (c : Call) (values : List ℕ)

@@ -155,18 +155,18 @@ unfolding lines
 engine-lines e [] = refl
 engine-lines e (x ∷ xs) = ap (λ (ls : List Line). line (step e x) ∷ ls) (engine-lines (step e x .engine) xs)
 
-module _ (Follows : SparkleVariant → SparkleEngine → Reader → Type 0)
-    (linked : (v : SparkleVariant) (e : SparkleEngine) (r : Reader) → Follows v e r → Linked v e r)
-    (new : (v : SparkleVariant) → Follows v (newEngine v) newReader)
-    (keeps : (v : SparkleVariant) (e : SparkleEngine) (r : Reader) (c : Call) → Follows v e r
-    → Follows v (step e c .engine) (read v r c .reader))
+module _ (Invariant : SparkleVariant → SparkleEngine → Reader → Type 0)
+    (linked : (v : SparkleVariant) (e : SparkleEngine) (r : Reader) → Invariant v e r → Linked v e r)
+    (new : (v : SparkleVariant) → Invariant v (newEngine v) newReader)
+    (keeps : (v : SparkleVariant) (e : SparkleEngine) (r : Reader) (c : Call) → Invariant v e r
+    → Invariant v (step e c .engine) (read v r c .reader))
   where
-    follows-after : (v : SparkleVariant) (xs : List Call) (e : SparkleEngine) (r : Reader) → Follows v e r
-        → Follows v (after engine e xs) (readFrom v r xs)
+    invariant-after : (v : SparkleVariant) (xs : List Call) (e : SparkleEngine) (r : Reader) → Invariant v e r
+        → Invariant v (after engine e xs) (readFrom v r xs)
     unfolding readFrom
-    follows-after v [] e r f = f
-    follows-after v (x ∷ xs) e r f =
-        follows-after v xs (step e x .engine) (read v r x .reader) (keeps v e r x f)
+    invariant-after v [] e r f = f
+    invariant-after v (x ∷ xs) e r f =
+        invariant-after v xs (step e x .engine) (read v r x .reader) (keeps v e r x f)
 
     -- Demand 2, the answers.
     pub engine-answers : (v : SparkleVariant) (before : List Call) (c : Call) → (c ≡ Call.Mac → ⊥)
@@ -174,13 +174,13 @@ module _ (Follows : SparkleVariant → SparkleEngine → Reader → Type 0)
     unfolding reader line
     engine-answers v before c other =
         answered v (after engine (newEngine v) before) (readFrom v newReader before)
-        (linked v _ _ (follows-after v before (newEngine v) newReader (new v))) c other
+        (linked v _ _ (invariant-after v before (newEngine v) newReader (new v))) c other
 
     -- Demand 3.
     pub engine-meets-3 : Demand3 engine
     unfolding sheet
     engine-meets-3 v xs ys a =
-        let both = sheets-and-verdicts v (Follows v) (linked v) (new v) (keeps v) xs ys a in
+        let both = sheets-and-verdicts v (Invariant v) (linked v) (new v) (keeps v) xs ys a in
         let p = engine-lines (newEngine v) xs in
         let q = engine-lines (newEngine v) ys in
         ((λ l. both .0 (sym p ∙ l ∙ q)), (λ w. p ∙ both .1 w ∙ sym q))

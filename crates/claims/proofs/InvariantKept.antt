@@ -1,5 +1,6 @@
--- The engine after a list of calls from a new engine is a function of what the reader keeps, but for the tag and, in
--- Final, the steps. By cases on the call and the phase; refused calls leave both as they are, since their checks agree.
+-- Every call keeps the invariant, so after a list of calls the engine is a function of what the reader keeps, but for the
+-- tag and, in Final, the steps. By cases on the call and the phase; refused calls leave both as they are, since their
+-- checks agree.
 use mathlib.Core.Path.{_≡_, refl, sym, ap, ap₂, subst, _∙_}
 use mathlib.Core.Bool.{Bool, true, false, cond}
 use mathlib.Core.List.{List, [], _∷_, _++_, append-nil}
@@ -39,25 +40,26 @@ use Rattle.claims.specs.Reader.{read, readFrom, reader}
 use Rattle.claims.specs.Refused.{Active}
 use Rattle.claims.specs.Refused.Active.{in-init, in-aad, in-data}
 use Rattle.claims.proofs.Points.{blockPoint}
-use Rattle.claims.proofs.Packets.{last-state, last-steps, length-body, packet-blocks, packet-state, held-block}
-use Rattle.claims.proofs.Packets.{held-received}
-use Rattle.claims.proofs.Kept.{headPoint, dataPoint, pointIn, initialIn, pairIn, headCount, dataCount, engineOf}
-use Rattle.claims.proofs.Kept.{openedMac, Standing, Fits, Follows, follows-new, holds-init, holds-aad, head-point}
-use Rattle.claims.proofs.Kept.{head-count, started-point, started-count, begin-point-init, begin-point-aad}
-use Rattle.claims.proofs.Kept.{begin-count-init, begin-count-aad, holds-data, state-data, data-point, data-count}
-use Rattle.claims.proofs.Kept.{isLoaded, Remembers, load-remembers, pair-load, key-back, repeats-agree, pointHeld}
-use Rattle.claims.proofs.Kept.{data-agrees, update-agrees, total-agrees, end-agrees, phase-agrees, end-enough, Sealed}
+use Rattle.claims.proofs.OpeningEnd.{last-state, last-steps, length-body, packet-blocks, packet-state, held-block}
+use Rattle.claims.proofs.OpeningEnd.{held-received}
+use Rattle.claims.proofs.Invariant.{headPoint, dataPoint, pointIn, initialIn, pairIn, headCount, dataCount, engineOf}
+use Rattle.claims.proofs.Invariant.{openedMac, PhaseInvariant, Fits, Invariant, invariant-new, holds-init, holds-aad}
+use Rattle.claims.proofs.Invariant.{head-point, head-count, started-point, started-count, begin-point-init}
+use Rattle.claims.proofs.Invariant.{begin-point-aad, begin-count-init, begin-count-aad, holds-data, state-data}
+use Rattle.claims.proofs.Invariant.{data-point, data-count, isLoaded, LoadsFit, load-fits, pair-load, key-back}
+use Rattle.claims.proofs.Invariant.{repeats-agree, pointHeld, data-agrees, update-agrees, total-agrees, end-agrees}
+use Rattle.claims.proofs.Invariant.{phase-agrees, end-enough, SealingFinal}
 
 -- ---- The calls
 
 -- a reader by its parts, and the engine in its data
-abbrev pub kept : List Load → (initial : List ℕ) → Phase → (header body : List ℕ) → Reader
-kept loads initial phase header body =
+abbrev pub readerOf : List Load → (initial : List ℕ) → Phase → (header body : List ℕ) → Reader
+readerOf loads initial phase header body =
     record { phase = phase; loads = loads; initial = initial; header = header; body = body }
 
 abbrev pub inData : SparkleVariant → List Load → (initial : List ℕ) → Direction → (header body : List ℕ) → SparkleEngine
 inData v loads initial d header body =
-    engineOf v (kept loads initial (Data d) header body) noMac (dataCount (paramsOf v) d header body)
+    engineOf v (readerOf loads initial (Data d) header body) noMac (dataCount (paramsOf v) d header body)
 
 module _ (v : SparkleVariant) where
   abbrev p : Params
@@ -71,16 +73,16 @@ module _ (v : SparkleVariant) where
     nonce = lastNonce loads
 
     -- the reader by its other parts, and the engine in its data
-    abbrev keeps : Phase → (header body : List ℕ) → Reader
-    keeps phase header body = kept loads initial phase header body
+    abbrev readerIn : Phase → (header body : List ℕ) → Reader
+    readerIn phase header body = readerOf loads initial phase header body
 
     abbrev dataEngine : Direction → (header body : List ℕ) → SparkleEngine
     dataEngine d header body = inData v loads initial d header body
 
-    module _ (f : Remembers p loads) where
+    module _ (f : LoadsFit p loads) where
       -- a header begun anew
       restart : (l : isLoaded loads ≡ true) (d : Direction) (first : List ℕ)
-          → Follows v
+          → Invariant v
           (record {
             variant = v;
             current = headPoint p (headerPhase d first) key nonce first;
@@ -89,38 +91,38 @@ module _ (v : SparkleVariant) where
             mac = noMac;
             steps = record { current = headCount p (length first); initial = headCount p (length first) };
           })
-          (kept loads first (headerPhase d first) first [])
+          (readerOf loads first (headerPhase d first) first [])
       restart l d [] =
-          record { mac = noMac; count = headCount p 0; same-engine = refl; fits = f; standing = (l, refl, refl, refl, refl) }
+          record { mac = noMac; count = headCount p 0; same-engine = refl; loads-fit = f; phase-invariant = (l, refl, refl, refl, refl) }
       restart l d (x ∷ first) =
           record {
             mac = noMac;
             count = headCount p (length (x ∷ first));
             same-engine = refl;
-            fits = f;
-            standing = (l, refl, refl, omega arith, refl);
+            loads-fit = f;
+            phase-invariant = (l, refl, refl, omega arith, refl);
           }
 
       -- reset
-      reset-follows : (phase : Phase) (header body : List ℕ) (mac : Mac) (n : ℕ)
-          → Standing p phase loads initial header body mac n
-          → Follows v (resetEngine (engineOf v (keeps phase header body) mac n)) (resetIn phase (keeps phase header body))
+      reset-keeps : (phase : Phase) (header body : List ℕ) (mac : Mac) (n : ℕ)
+          → PhaseInvariant p phase loads initial header body mac n
+          → Invariant v (resetEngine (engineOf v (readerIn phase header body) mac n)) (resetIn phase (readerIn phase header body))
       unfolding resetEngine resetSteps headPoint dataPoint blockPoint noMessage finalPoint
-      reset-follows Uninitialized header body mac n st =
-          record { mac = noMac; count = 0; same-engine = refl; fits = f; standing = (refl, refl) }
-      reset-follows (Init d) header body mac n st = restart (st .0) d initial
-      reset-follows (Aad d) header body mac n st = restart (st .0) d initial
-      reset-follows (Data Encrypt) header body mac n st =
-          record { mac = noMac; count = headCount p (length initial); same-engine = refl; fits = f; standing = (st .0, Sealed.stopped refl refl) }
-      reset-follows (Data Decrypt) header body mac n st = restart (st .0) Decrypt initial
-      reset-follows (Final Encrypt) header body mac n st =
-          record { mac = noMac; count = headCount p (length initial); same-engine = refl; fits = f; standing = (st .0, Sealed.stopped refl refl) }
-      reset-follows (Final Decrypt) header body mac n st = restart (st .0) Decrypt initial
+      reset-keeps Uninitialized header body mac n st =
+          record { mac = noMac; count = 0; same-engine = refl; loads-fit = f; phase-invariant = (refl, refl) }
+      reset-keeps (Init d) header body mac n st = restart (st .0) d initial
+      reset-keeps (Aad d) header body mac n st = restart (st .0) d initial
+      reset-keeps (Data Encrypt) header body mac n st =
+          record { mac = noMac; count = headCount p (length initial); same-engine = refl; loads-fit = f; phase-invariant = (st .0, SealingFinal.was-reset refl refl) }
+      reset-keeps (Data Decrypt) header body mac n st = restart (st .0) Decrypt initial
+      reset-keeps (Final Encrypt) header body mac n st =
+          record { mac = noMac; count = headCount p (length initial); same-engine = refl; loads-fit = f; phase-invariant = (st .0, SealingFinal.was-reset refl refl) }
+      reset-keeps (Final Decrypt) header body mac n st = restart (st .0) Decrypt initial
 
       -- the data begins
       module _ (d : Direction) where
-        begin-init : beginData (engineOf v (keeps (Init d) [] []) noMac (headCount p 0))
-            ≡ engineOf v (keeps (Data d) [] []) noMac (dataCount p d [] [])
+        begin-init : beginData (engineOf v (readerIn (Init d) [] []) noMac (headCount p 0))
+            ≡ engineOf v (readerIn (Data d) [] []) noMac (dataCount p d [] [])
         unfolding beginData atPoint addSteps headPoint dataPoint blockPoint withoutHeader afterHeader
         begin-init =
             λ i. record {
@@ -133,8 +135,8 @@ module _ (v : SparkleVariant) where
             }
 
         begin-aad : (header : List ℕ) → 0 < length header
-            → beginData (engineOf v (keeps (Aad d) header []) noMac (headCount p (length header)))
-            ≡ engineOf v (keeps (Data d) header []) noMac (dataCount p d header [])
+            → beginData (engineOf v (readerIn (Aad d) header []) noMac (headCount p (length header)))
+            ≡ engineOf v (readerIn (Data d) header []) noMac (dataCount p d header [])
         unfolding beginData atPoint addSteps headPoint dataPoint blockPoint withoutHeader afterHeader buffered held
         begin-aad header some =
             λ i. record {
@@ -147,8 +149,8 @@ module _ (v : SparkleVariant) where
             }
 
         pub data-in : (header body input : List ℕ)
-            → dataIn (engineOf v (keeps (Data d) header body) noMac (dataCount p d header body)) input
-            ≡ engineOf v (keeps (Data d) header (body ++ input)) noMac (dataCount p d header (body ++ input))
+            → dataIn (engineOf v (readerIn (Data d) header body) noMac (dataCount p d header body)) input
+            ≡ engineOf v (readerIn (Data d) header (body ++ input)) noMac (dataCount p d header (body ++ input))
         unfolding dataIn atPoint addSteps dataPoint blockPoint
         data-in header body input =
             λ i. record {
@@ -162,22 +164,22 @@ module _ (v : SparkleVariant) where
 
       -- a phase that takes data, in a direction
       pub begin-data : {phase : Phase} {d : Direction} → Active d phase → (header body : List ℕ) (mac : Mac) (n : ℕ)
-          → Standing p phase loads initial header body mac n
-          → beginData (engineOf v (keeps phase header body) mac n)
-          ≡ engineOf v (keeps (Data d) header body) noMac (dataCount p d header body)
+          → PhaseInvariant p phase loads initial header body mac n
+          → beginData (engineOf v (readerIn phase header body) mac n)
+          ≡ engineOf v (readerIn (Data d) header body) noMac (dataCount p d header body)
       unfolding beginData dataPoint blockPoint withoutHeader afterHeader
       begin-data {d = d} in-init header body mac n st =
-          (λ i. beginData (engineOf v (keeps (Init d) (st .3 i) (st .4 i)) (st .1 i) ((st .2 ∙ ap (λ (l : List ℕ). headCount p (length l)) (st .3)) i)))
+          (λ i. beginData (engineOf v (readerIn (Init d) (st .3 i) (st .4 i)) (st .1 i) ((st .2 ∙ ap (λ (l : List ℕ). headCount p (length l)) (st .3)) i)))
           ∙ begin-init d
-          ∙ sym (λ i. engineOf v (keeps (Data d) (st .3 i) (st .4 i)) noMac (dataCount p d (st .3 i) (st .4 i)))
+          ∙ sym (λ i. engineOf v (readerIn (Data d) (st .3 i) (st .4 i)) noMac (dataCount p d (st .3 i) (st .4 i)))
       begin-data {d = d} in-aad header body mac n st =
-          (λ i. beginData (engineOf v (keeps (Aad d) header (st .4 i)) (st .1 i) (st .2 i)))
+          (λ i. beginData (engineOf v (readerIn (Aad d) header (st .4 i)) (st .1 i) (st .2 i)))
           ∙ begin-aad d header (st .3)
-          ∙ sym (λ i. engineOf v (keeps (Data d) header (st .4 i)) noMac (dataCount p d header (st .4 i)))
-      begin-data {d = d} in-data header body mac n st = λ i. engineOf v (keeps (Data d) header body) (st .1 i) (st .2 i)
+          ∙ sym (λ i. engineOf v (readerIn (Data d) header (st .4 i)) noMac (dataCount p d header (st .4 i)))
+      begin-data {d = d} in-data header body mac n st = λ i. engineOf v (readerIn (Data d) header body) (st .1 i) (st .2 i)
 
       pub active-loaded : {phase : Phase} {d : Direction} → Active d phase → (header body : List ℕ) (mac : Mac) (n : ℕ)
-          → Standing p phase loads initial header body mac n → isLoaded loads ≡ true
+          → PhaseInvariant p phase loads initial header body mac n → isLoaded loads ≡ true
       active-loaded in-init header body mac n st = st .0
       active-loaded in-aad header body mac n st = st .0
       active-loaded in-data header body mac n st = st .0
@@ -185,15 +187,15 @@ module _ (v : SparkleVariant) where
       -- a header call
       more-header : (d : Direction) (l : isLoaded loads ≡ true) (header body input : List ℕ) (e : SparkleEngine)
           → 0 < length (header ++ input) → body ≡ []
-          → e ≡ engineOf v (keeps (Aad d) (header ++ input) body) noMac (headCount p (length (header ++ input)))
-          → Follows v e (keeps (Aad d) (header ++ input) body)
+          → e ≡ engineOf v (readerIn (Aad d) (header ++ input) body) noMac (headCount p (length (header ++ input)))
+          → Invariant v e (readerIn (Aad d) (header ++ input) body)
       more-header d l header body input e some none is =
           record {
             mac = noMac;
             count = headCount p (length (header ++ input));
             same-engine = is;
-            fits = f;
-            standing = (l, refl, refl, some, none);
+            loads-fit = f;
+            phase-invariant = (l, refl, refl, some, none);
           }
 
       header-in : (phase : Phase) (d : Direction) (header body : List ℕ) (mac : Mac) (n : ℕ) (x : ℕ) (input : List ℕ)
@@ -212,7 +214,7 @@ module _ (v : SparkleVariant) where
                   initial = headCount p (length initial);
                 };
           })
-          (engineOf v (keeps (Aad d) (header ++ (x ∷ input)) body) noMac (headCount p (length (header ++ (x ∷ input)))))
+          (engineOf v (readerIn (Aad d) (header ++ (x ∷ input)) body) noMac (headCount p (length (header ++ (x ∷ input)))))
       header-in phase d header body mac n x input holds no-mac counts =
           λ i. record {
             variant = v;
@@ -229,58 +231,58 @@ module _ (v : SparkleVariant) where
                 };
           }
 
-      header-follows : (phase : Phase) (header body : List ℕ) (mac : Mac) (n : ℕ)
-          → Standing p phase loads initial header body mac n → (x : ℕ) (input : List ℕ)
-          → Follows v (aadBy (headerCheck phase) (engineOf v (keeps phase header body) mac n) (x ∷ input) .engine)
-          (readHeader (headerCheck phase) (keeps phase header body) (x ∷ input) .reader)
+      header-keeps : (phase : Phase) (header body : List ℕ) (mac : Mac) (n : ℕ)
+          → PhaseInvariant p phase loads initial header body mac n → (x : ℕ) (input : List ℕ)
+          → Invariant v (aadBy (headerCheck phase) (engineOf v (readerIn phase header body) mac n) (x ∷ input) .engine)
+          (readHeader (headerCheck phase) (readerIn phase header body) (x ∷ input) .reader)
       unfolding atPoint addSteps headPoint blockPoint
-      header-follows Uninitialized header body mac n st x input =
-          record { mac = mac; count = n; same-engine = refl; fits = f; standing = st }
-      header-follows (Init d) header body mac n st x input =
+      header-keeps Uninitialized header body mac n st x input =
+          record { mac = mac; count = n; same-engine = refl; loads-fit = f; phase-invariant = st }
+      header-keeps (Init d) header body mac n st x input =
           more-header d (st .0) header body (x ∷ input) _ (simp length-append (omega arith)) (st .4)
           (header-in (Init d) d header body mac n x input
           (ap (λ (l : List ℕ). buffered p (headPoint p (Init d) key nonce l)) (st .3)
           ∙ holds-init p (sizes v) (small v) key nonce d ∙ ap (held (p .rate) 0) (sym (st .3)))
           (st .1) (st .2))
-      header-follows (Aad d) header body mac n st x input =
+      header-keeps (Aad d) header body mac n st x input =
           more-header d (st .0) header body (x ∷ input) _ (simp length-append (omega arith)) (st .4)
           (header-in (Aad d) d header body mac n x input (holds-aad p (sizes v) (small v) key nonce d header) (st .1)
           (st .2))
-      header-follows (Data d) header body mac n st x input =
-          record { mac = mac; count = n; same-engine = refl; fits = f; standing = st }
-      header-follows (Final d) header body mac n st x input =
-          record { mac = mac; count = n; same-engine = refl; fits = f; standing = st }
+      header-keeps (Data d) header body mac n st x input =
+          record { mac = mac; count = n; same-engine = refl; loads-fit = f; phase-invariant = st }
+      header-keeps (Final d) header body mac n st x input =
+          record { mac = mac; count = n; same-engine = refl; loads-fit = f; phase-invariant = st }
 
       -- a data call
       into-data : (d : Direction) (l : isLoaded loads ≡ true) (header body input : List ℕ) (e : SparkleEngine)
-          → e ≡ engineOf v (keeps (Data d) header body) noMac (dataCount p d header body)
-          → Follows v (dataIn e input) (keeps (Data d) header (body ++ input))
+          → e ≡ engineOf v (readerIn (Data d) header body) noMac (dataCount p d header body)
+          → Invariant v (dataIn e input) (readerIn (Data d) header (body ++ input))
       into-data d l header body input e is =
           record {
             mac = noMac;
             count = dataCount p d header (body ++ input);
             same-engine = ap (λ (x : SparkleEngine). dataIn x input) is ∙ data-in d header body input;
-            fits = f;
-            standing = (l, refl, refl);
+            loads-fit = f;
+            phase-invariant = (l, refl, refl);
           }
 
-      data-follows : {phase : Phase} {d : Direction} → Active d phase → (header body : List ℕ) (mac : Mac) (n : ℕ)
-          → Standing p phase loads initial header body mac n → (input : List ℕ) (k : AeadResult)
-          → Follows v (dataBy k (engineOf v (keeps phase header body) mac n) input .engine)
-          (readMessage k (keeps phase header body) input .reader)
-      data-follows t header body mac n st input (Err x) =
-          record { mac = mac; count = n; same-engine = refl; fits = f; standing = st }
-      data-follows {d = d} in-init header body mac n st input (Ok k) =
+      data-keeps : {phase : Phase} {d : Direction} → Active d phase → (header body : List ℕ) (mac : Mac) (n : ℕ)
+          → PhaseInvariant p phase loads initial header body mac n → (input : List ℕ) (k : AeadResult)
+          → Invariant v (dataBy k (engineOf v (readerIn phase header body) mac n) input .engine)
+          (readMessage k (readerIn phase header body) input .reader)
+      data-keeps t header body mac n st input (Err x) =
+          record { mac = mac; count = n; same-engine = refl; loads-fit = f; phase-invariant = st }
+      data-keeps {d = d} in-init header body mac n st input (Ok k) =
           into-data d (st .0) header body input _ (begin-data {d = d} in-init header body mac n st)
-      data-follows {d = d} in-aad header body mac n st input (Ok k) =
+      data-keeps {d = d} in-aad header body mac n st input (Ok k) =
           into-data d (st .0) header body input _ (begin-data {d = d} in-aad header body mac n st)
-      data-follows {d = d} in-data header body mac n st input (Ok k) =
+      data-keeps {d = d} in-data header body mac n st input (Ok k) =
           into-data d (st .0) header body input _ (begin-data {d = d} in-data header body mac n st)
 
       -- the end
       end-engine : (d : Direction) (header body : List ℕ) (mac : Mac) (k c : ℕ) → (dataCount p d header body + k) % 2 ^ 64
           ≡ c
-          → finalEngine (dataEngine d header body) d mac k ≡ engineOf v (keeps (Final d) header body) mac c
+          → finalEngine (dataEngine d header body) d mac k ≡ engineOf v (readerIn (Final d) header body) mac c
       unfolding finalEngine addSteps
       end-engine d header body mac k c e =
           λ i. record {
@@ -293,8 +295,8 @@ module _ (v : SparkleVariant) where
           }
 
       module _ (l : isLoaded loads ≡ true) (header body : List ℕ) where
-        now-key : currentKey p (pairIn loads) ≡ key
-        now-key = key-back p (small v) loads f l
+        current-key : currentKey p (pairIn loads) ≡ key
+        current-key = key-back p (small v) loads f l
 
         -- a sealing
         pub sealing-state : stateIn p (dataPoint p Encrypt key nonce header body .words)
@@ -309,7 +311,7 @@ module _ (v : SparkleVariant) where
         pub sealing-tag : sealTag (dataEngine Encrypt header body) ≡ tag p key nonce header body
         unfolding sealTag tag sealing
         sealing-tag =
-            rw (now-key, sealing-state, sealing-block)
+            rw (current-key, sealing-state, sealing-block)
             (ap (tagOf p key)
             (last-state p (sealing p) (prepared p key nonce header) body))
 
@@ -324,7 +326,7 @@ module _ (v : SparkleVariant) where
 
         pub seal-engine : (k : ℕ)
             → sealFinal (dataEngine Encrypt header body) k .engine
-            ≡ engineOf v (keeps (Final Encrypt) header body) (readable (tag p key nonce header body))
+            ≡ engineOf v (readerIn (Final Encrypt) header body) (readable (tag p key nonce header body))
             (steps p (length header) (length body) % 2 ^ 64)
         unfolding sealFinal
         seal-engine k =
@@ -364,7 +366,7 @@ module _ (v : SparkleVariant) where
               ≡ tag p key nonce header (decrypt p key nonce header (bodyOf p body))
           unfolding openTag openingBlock
           opening-tag =
-              rw (now-key, opening-last, opening-block, opening-state)
+              rw (current-key, opening-last, opening-block, opening-state)
               (ap (tagOf p key)
               (last-state p (openingBlock p) (prepared p key nonce header) (bodyOf p body))
               ∙ sym (tag-of-opened p (sizes v) key nonce header (bodyOf p body)))
@@ -386,7 +388,7 @@ module _ (v : SparkleVariant) where
 
           pub open-engine : (k : ℕ)
               → openFinal (dataEngine Decrypt header body) k .engine
-              ≡ engineOf v (keeps (Final Decrypt) header body) (openedMac p key nonce header body)
+              ≡ engineOf v (readerIn (Final Decrypt) header body) (openedMac p key nonce header body)
               (steps p (length header) (length body - p .key) % 2 ^ 64)
           unfolding openFinal openedMac
           open-engine k =
@@ -394,7 +396,7 @@ module _ (v : SparkleVariant) where
               (verified p key nonce header body)
             where
               by : (b : Bool) → openFinalBy b (dataEngine Decrypt header body) k .engine
-                  ≡ engineOf v (keeps (Final Decrypt) header body)
+                  ≡ engineOf v (readerIn (Final Decrypt) header body)
                   (cond b (readable (tag p key nonce header (decrypt p key nonce header (bodyOf p body)))) noMac)
                   (steps p (length header) (length body - p .key) % 2 ^ 64)
               by true =
@@ -403,66 +405,66 @@ module _ (v : SparkleVariant) where
                   ∙ end-engine Decrypt header body _ _ _ opening-count
               by false = end-engine Decrypt header body _ _ _ opening-count
 
-        sealed-follows : (k : ℕ) (e : SparkleEngine) → e ≡ dataEngine Encrypt header body
-            → Follows v (sealFinal e k .engine) (keeps (Final Encrypt) header body)
-        sealed-follows k e is =
+        sealed-keeps : (k : ℕ) (e : SparkleEngine) → e ≡ dataEngine Encrypt header body
+            → Invariant v (sealFinal e k .engine) (readerIn (Final Encrypt) header body)
+        sealed-keeps k e is =
             record {
               mac = readable (tag p key nonce header body);
               count = steps p (length header) (length body) % 2 ^ 64;
               same-engine = ap (λ (x : SparkleEngine). sealFinal x k .engine) is ∙ seal-engine k;
-              fits = f;
-              standing = (l, Sealed.finished refl refl);
+              loads-fit = f;
+              phase-invariant = (l, SealingFinal.has-ended refl refl);
             }
 
-        opened-follows : p .key ≤ length body → (k : ℕ) (e : SparkleEngine) → e ≡ dataEngine Decrypt header body
-            → Follows v (openFinal e k .engine) (keeps (Final Decrypt) header body)
-        opened-follows enough k e is =
+        opened-keeps : p .key ≤ length body → (k : ℕ) (e : SparkleEngine) → e ≡ dataEngine Decrypt header body
+            → Invariant v (openFinal e k .engine) (readerIn (Final Decrypt) header body)
+        opened-keeps enough k e is =
             record {
               mac = openedMac p key nonce header body;
               count = steps p (length header) (length body - p .key) % 2 ^ 64;
               same-engine = ap (λ (x : SparkleEngine). openFinal x k .engine) is ∙ open-engine enough k;
-              fits = f;
-              standing = (l, refl, refl, enough);
+              loads-fit = f;
+              phase-invariant = (l, refl, refl, enough);
             }
 
-      seal-follows : {phase : Phase} → Active Encrypt phase → (header body : List ℕ) (mac : Mac) (n : ℕ)
-          → Standing p phase loads initial header body mac n → (k : AeadResult)
-          → Follows v (finalBy k (engineOf v (keeps phase header body) mac n) .engine)
-          (readEnd k p (keeps phase header body) .reader)
+      seal-keeps : {phase : Phase} → Active Encrypt phase → (header body : List ℕ) (mac : Mac) (n : ℕ)
+          → PhaseInvariant p phase loads initial header body mac n → (k : AeadResult)
+          → Invariant v (finalBy k (engineOf v (readerIn phase header body) mac n) .engine)
+          (readEnd k p (readerIn phase header body) .reader)
       unfolding headPoint dataPoint blockPoint
-      seal-follows t header body mac n st (Err x) =
-          record { mac = mac; count = n; same-engine = refl; fits = f; standing = st }
-      seal-follows in-init header body mac n st (Ok k) =
-          sealed-follows (st .0) header body k _ (begin-data {d = Encrypt} in-init header body mac n st)
-      seal-follows in-aad header body mac n st (Ok k) =
-          sealed-follows (st .0) header body k _ (begin-data {d = Encrypt} in-aad header body mac n st)
-      seal-follows in-data header body mac n st (Ok k) =
-          sealed-follows (st .0) header body k _ (begin-data {d = Encrypt} in-data header body mac n st)
+      seal-keeps t header body mac n st (Err x) =
+          record { mac = mac; count = n; same-engine = refl; loads-fit = f; phase-invariant = st }
+      seal-keeps in-init header body mac n st (Ok k) =
+          sealed-keeps (st .0) header body k _ (begin-data {d = Encrypt} in-init header body mac n st)
+      seal-keeps in-aad header body mac n st (Ok k) =
+          sealed-keeps (st .0) header body k _ (begin-data {d = Encrypt} in-aad header body mac n st)
+      seal-keeps in-data header body mac n st (Ok k) =
+          sealed-keeps (st .0) header body k _ (begin-data {d = Encrypt} in-data header body mac n st)
 
-      open-follows : {phase : Phase} → Active Decrypt phase → (header body : List ℕ) (mac : Mac) (n : ℕ)
-          → Standing p phase loads initial header body mac n → (k : AeadResult)
+      open-keeps : {phase : Phase} → Active Decrypt phase → (header body : List ℕ) (mac : Mac) (n : ℕ)
+          → PhaseInvariant p phase loads initial header body mac n → (k : AeadResult)
           → ((j : ℕ) → k ≡ Ok j → p .key ≤ length body)
-          → Follows v (finalBy k (engineOf v (keeps phase header body) mac n) .engine)
-          (readEnd k p (keeps phase header body) .reader)
+          → Invariant v (finalBy k (engineOf v (readerIn phase header body) mac n) .engine)
+          (readEnd k p (readerIn phase header body) .reader)
       unfolding headPoint dataPoint blockPoint
-      open-follows t header body mac n st (Err x) enough =
-          record { mac = mac; count = n; same-engine = refl; fits = f; standing = st }
-      open-follows in-init header body mac n st (Ok k) enough =
-          opened-follows (st .0) header body (enough k refl) k _ (begin-data {d = Decrypt} in-init header body mac n st)
-      open-follows in-aad header body mac n st (Ok k) enough =
-          opened-follows (st .0) header body (enough k refl) k _ (begin-data {d = Decrypt} in-aad header body mac n st)
-      open-follows in-data header body mac n st (Ok k) enough =
-          opened-follows (st .0) header body (enough k refl) k _ (begin-data {d = Decrypt} in-data header body mac n st)
+      open-keeps t header body mac n st (Err x) enough =
+          record { mac = mac; count = n; same-engine = refl; loads-fit = f; phase-invariant = st }
+      open-keeps in-init header body mac n st (Ok k) enough =
+          opened-keeps (st .0) header body (enough k refl) k _ (begin-data {d = Decrypt} in-init header body mac n st)
+      open-keeps in-aad header body mac n st (Ok k) enough =
+          opened-keeps (st .0) header body (enough k refl) k _ (begin-data {d = Decrypt} in-aad header body mac n st)
+      open-keeps in-data header body mac n st (Ok k) enough =
+          opened-keeps (st .0) header body (enough k refl) k _ (begin-data {d = Decrypt} in-data header body mac n st)
 
 -- a start
-start-follows : (v : SparkleVariant) (r : Reader) (mac : Mac) (n : ℕ)
-    → (Remembers (paramsOf v) (r .loads))
+start-keeps : (v : SparkleVariant) (r : Reader) (mac : Mac) (n : ℕ)
+    → (LoadsFit (paramsOf v) (r .loads))
     → (d : Direction) (key nonce header : List ℕ) (k : AeadInitResult) → (k ≡ StartOk → Fits (paramsOf v) key nonce)
-    → Follows v (initBy k (engineOf v r mac n) d key nonce header .engine) (readStart k r d key nonce header .reader)
+    → Invariant v (initBy k (engineOf v r mac n) d key nonce header .engine) (readStart k r d key nonce header .reader)
 unfolding started refused initSteps refusedSteps noSteps
-start-follows v r mac n f d key nonce header (StartErr x) g =
-    record { mac = noMac; count = 0; same-engine = refl; fits = f; standing = (refl, refl) }
-start-follows v r mac n f d key nonce header StartOk g =
+start-keeps v r mac n f d key nonce header (StartErr x) g =
+    record { mac = noMac; count = 0; same-engine = refl; loads-fit = f; phase-invariant = (refl, refl) }
+start-keeps v r mac n f d key nonce header StartOk g =
     let p = paramsOf v in
     let e : started (engineOf v r mac n) d key nonce header
     ≡ record {
@@ -486,8 +488,8 @@ start-follows v r mac n f d key nonce header StartOk g =
           };
     }
     in
-    subst (λ (x : SparkleEngine). Follows v x (readStart StartOk r d key nonce header .reader)) (sym e)
-    (restart v (load (r .loads) key nonce) header (load-remembers p (r .loads) key nonce f (g refl)) refl d header)
+    subst (λ (x : SparkleEngine). Invariant v x (readStart StartOk r d key nonce header .reader)) (sym e)
+    (restart v (load (r .loads) key nonce) header (load-fits p (r .loads) key nonce f (g refl)) refl d header)
 
 -- ---- A call
 
@@ -498,27 +500,27 @@ aad-some phase n = rw (ne-eqb (suc n) 0 (λ e. omega arith))
 -- a data call and an end, by the phase
 message-step : (v : SparkleVariant) (phase : Phase) (loads : List Load) (initial header body : List ℕ) (mac : Mac)
     (n : ℕ)
-    → (Remembers (paramsOf v) loads) → Standing (paramsOf v) phase loads initial header body mac n
+    → (LoadsFit (paramsOf v) loads) → PhaseInvariant (paramsOf v) phase loads initial header body mac n
     → (input : List ℕ) (held a : ℕ)
-    → Follows v
+    → Invariant v
     (dataBy (dataCheck (paramsOf v) phase held (length input) a)
-    (engineOf v (kept loads initial phase header body) mac n) input .engine)
+    (engineOf v (readerOf loads initial phase header body) mac n) input .engine)
     (readMessage (dataCheck (paramsOf v) phase held (length input) a)
-    (kept loads initial phase header body) input .reader)
+    (readerOf loads initial phase header body) input .reader)
 unfolding dataCheck
 message-step v Uninitialized loads initial header body mac n f st input held a =
-    record { mac = mac; count = n; same-engine = refl; fits = f; standing = st }
+    record { mac = mac; count = n; same-engine = refl; loads-fit = f; phase-invariant = st }
 message-step v (Init d) loads initial header body mac n f st input held a =
-    data-follows v loads initial f {d = d} in-init header body mac n st input
+    data-keeps v loads initial f {d = d} in-init header body mac n st input
     (dataCheck (paramsOf v) (Init d) held (length input) a)
 message-step v (Aad d) loads initial header body mac n f st input held a =
-    data-follows v loads initial f {d = d} in-aad header body mac n st input
+    data-keeps v loads initial f {d = d} in-aad header body mac n st input
     (dataCheck (paramsOf v) (Aad d) held (length input) a)
 message-step v (Data d) loads initial header body mac n f st input held a =
-    data-follows v loads initial f {d = d} in-data header body mac n st input
+    data-keeps v loads initial f {d = d} in-data header body mac n st input
     (dataCheck (paramsOf v) (Data d) held (length input) a)
 message-step v (Final d) loads initial header body mac n f st input held a =
-    record { mac = mac; count = n; same-engine = refl; fits = f; standing = st }
+    record { mac = mac; count = n; same-engine = refl; loads-fit = f; phase-invariant = st }
 
 pub active-enough : (p : Params) → Sizes p → {phase : Phase} → Active Decrypt phase
     → (body : List ℕ) (a k : ℕ) → endCheck p phase (pointHeld p body phase) a ≡ Ok k → p .key ≤ length body
@@ -530,38 +532,38 @@ active-enough p h in-data body a k e =
     omega (arith, end-enough p (Data Decrypt) (pointHeld p body (Data Decrypt)) a k refl e)
 
 end-step : (v : SparkleVariant) (phase : Phase) (loads : List Load) (initial header body : List ℕ) (mac : Mac) (n : ℕ)
-    → (Remembers (paramsOf v) loads) → Standing (paramsOf v) phase loads initial header body mac n
+    → (LoadsFit (paramsOf v) loads) → PhaseInvariant (paramsOf v) phase loads initial header body mac n
     → (a : ℕ)
-    → Follows v
+    → Invariant v
     (finalBy (endCheck (paramsOf v) phase (pointHeld (paramsOf v) body phase) a)
-    (engineOf v (kept loads initial phase header body) mac n) .engine)
+    (engineOf v (readerOf loads initial phase header body) mac n) .engine)
     (readEnd (endCheck (paramsOf v) phase (pointHeld (paramsOf v) body phase) a) (paramsOf v)
-    (kept loads initial phase header body) .reader)
+    (readerOf loads initial phase header body) .reader)
 end-step v Uninitialized loads initial header body mac n f st a =
-    unfold endCheck in record { mac = mac; count = n; same-engine = refl; fits = f; standing = st }
+    unfold endCheck in record { mac = mac; count = n; same-engine = refl; loads-fit = f; phase-invariant = st }
 end-step v (Init Encrypt) loads initial header body mac n f st a =
-    seal-follows v loads initial f in-init header body mac n st
+    seal-keeps v loads initial f in-init header body mac n st
     (endCheck (paramsOf v) (Init Encrypt) (pointHeld (paramsOf v) body (Init Encrypt)) a)
 end-step v (Aad Encrypt) loads initial header body mac n f st a =
-    seal-follows v loads initial f in-aad header body mac n st
+    seal-keeps v loads initial f in-aad header body mac n st
     (endCheck (paramsOf v) (Aad Encrypt) (pointHeld (paramsOf v) body (Aad Encrypt)) a)
 end-step v (Data Encrypt) loads initial header body mac n f st a =
-    seal-follows v loads initial f in-data header body mac n st
+    seal-keeps v loads initial f in-data header body mac n st
     (endCheck (paramsOf v) (Data Encrypt) (pointHeld (paramsOf v) body (Data Encrypt)) a)
 end-step v (Init Decrypt) loads initial header body mac n f st a =
-    open-follows v loads initial f in-init header body mac n st
+    open-keeps v loads initial f in-init header body mac n st
     (endCheck (paramsOf v) (Init Decrypt) (pointHeld (paramsOf v) body (Init Decrypt)) a)
     (active-enough (paramsOf v) (sizes v) in-init body a)
 end-step v (Aad Decrypt) loads initial header body mac n f st a =
-    open-follows v loads initial f in-aad header body mac n st
+    open-keeps v loads initial f in-aad header body mac n st
     (endCheck (paramsOf v) (Aad Decrypt) (pointHeld (paramsOf v) body (Aad Decrypt)) a)
     (active-enough (paramsOf v) (sizes v) in-aad body a)
 end-step v (Data Decrypt) loads initial header body mac n f st a =
-    open-follows v loads initial f in-data header body mac n st
+    open-keeps v loads initial f in-data header body mac n st
     (endCheck (paramsOf v) (Data Decrypt) (pointHeld (paramsOf v) body (Data Decrypt)) a)
     (active-enough (paramsOf v) (sizes v) in-data body a)
 end-step v (Final d) loads initial header body mac n f st a =
-    unfold endCheck in record { mac = mac; count = n; same-engine = refl; fits = f; standing = st }
+    unfold endCheck in record { mac = mac; count = n; same-engine = refl; loads-fit = f; phase-invariant = st }
 
 -- the engine's checks are the reader's
 module _ (v : SparkleVariant) (r : Reader) (mac : Mac) (n : ℕ) where
@@ -608,80 +610,80 @@ module _ (v : SparkleVariant) (r : Reader) (mac : Mac) (n : ℕ) where
       (r .phase))
 
 -- a call on the engine that the reader gives
-module _ (v : SparkleVariant) (r : Reader) (mac : Mac) (n : ℕ) (f : Remembers (paramsOf v) (r .loads))
-    (st : Standing (paramsOf v) (r .phase) (r .loads) (r .initial) (r .header) (r .body) mac n) where
-  unchanged : Follows v (engineOf v r mac n) r
-  unchanged = record { mac = mac; count = n; same-engine = refl; fits = f; standing = st }
+module _ (v : SparkleVariant) (r : Reader) (mac : Mac) (n : ℕ) (f : LoadsFit (paramsOf v) (r .loads))
+    (st : PhaseInvariant (paramsOf v) (r .phase) (r .loads) (r .initial) (r .header) (r .body) mac n) where
+  unchanged : Invariant v (engineOf v r mac n) r
+  unchanged = record { mac = mac; count = n; same-engine = refl; loads-fit = f; phase-invariant = st }
 
   start-step : (d : Direction) (key nonce : List ℕ) (size : ℕ) (h : List ℕ)
-      → Follows v (init (engineOf v r mac n) d key nonce size h .engine)
+      → Invariant v (init (engineOf v r mac n) d key nonce size h .engine)
       (read v r (Call.Init d key nonce size h) .reader)
   unfolding init read
   start-step d key nonce size h =
       let p = paramsOf v in
       let k = startCheck v d (length key) (length nonce) size (repeated r key nonce) in
-      subst (λ (b : Bool). Follows v (initBy (startCheck v d (length key) (length nonce) size b) (engineOf v r mac n) d key nonce h .engine)
+      subst (λ (b : Bool). Invariant v (initBy (startCheck v d (length key) (length nonce) size b) (engineOf v r mac n) d key nonce h .engine)
       (readStart k r d key nonce h .reader))
       (sym (repeats-agree p (small v) (r .loads) f key nonce))
-      (start-follows v r mac n f d key nonce h k
+      (start-keeps v r mac n f d key nonce h k
       (λ e. let g = startCheck-lengths v d (length key) (length nonce) size (repeated r key nonce) e in record { key-fits = g .0; nonce-fits = g .1 }))
 
   header-some : (x : ℕ) (input : List ℕ)
-      → Follows v (aadBy (aadCheck (engineOf v r mac n .current .phase) (suc (length input))) (engineOf v r mac n)
+      → Invariant v (aadBy (aadCheck (engineOf v r mac n .current .phase) (suc (length input))) (engineOf v r mac n)
       (x ∷ input) .engine)
       (readHeader (aadCheck (r .phase) (suc (length input))) r (x ∷ input) .reader)
   header-some x input =
-      subst (λ (k : AeadResult). Follows v (aadBy k (engineOf v r mac n) (x ∷ input) .engine)
+      subst (λ (k : AeadResult). Invariant v (aadBy k (engineOf v r mac n) (x ∷ input) .engine)
       (readHeader (aadCheck (r .phase) (suc (length input))) r (x ∷ input) .reader))
       (sym (header-answer v r mac n (suc (length input))))
-      (subst (λ (k : AeadResult). Follows v (aadBy k (engineOf v r mac n) (x ∷ input) .engine) (readHeader k r (x ∷ input) .reader))
+      (subst (λ (k : AeadResult). Invariant v (aadBy k (engineOf v r mac n) (x ∷ input) .engine) (readHeader k r (x ∷ input) .reader))
       (sym (aad-some (r .phase) (length input)))
-      (header-follows v (r .loads) (r .initial) f (r .phase) (r .header) (r .body) mac n st x input))
+      (header-keeps v (r .loads) (r .initial) f (r .phase) (r .header) (r .body) mac n st x input))
 
   header-step : (input : List ℕ)
-      → Follows v (processAadBytes (engineOf v r mac n) input .engine) (read v r (Call.Aad input) .reader)
+      → Invariant v (processAadBytes (engineOf v r mac n) input .engine) (read v r (Call.Aad input) .reader)
   unfolding processAadBytes read aadCheck
   header-step [] =
-      subst (λ (l : List ℕ). Follows v (engineOf v r mac n) (inPhase r (r .phase) l (r .body)))
+      subst (λ (l : List ℕ). Invariant v (engineOf v r mac n) (inPhase r (r .phase) l (r .body)))
       (sym (append-nil (r .header))) unchanged
   header-step (x ∷ input) = header-some x input
 
-  call-step : (c : Call) → Follows v (step (engineOf v r mac n) c .engine) (read v r c .reader)
+  call-step : (c : Call) → Invariant v (step (engineOf v r mac n) c .engine) (read v r c .reader)
   unfolding step processBytes doFinal
   call-step (Call.Init d key nonce size h) = start-step d key nonce size h
   call-step (Call.Aad input) = header-step input
   call-step (Call.Data input out) = unfold read in
-      subst (λ (k : AeadResult). Follows v (dataBy k (engineOf v r mac n) input .engine)
+      subst (λ (k : AeadResult). Invariant v (dataBy k (engineOf v r mac n) input .engine)
       (read v r (Call.Data input out) .reader))
       (sym (data-answer v r mac n (length input) (length out)))
       (message-step v (r .phase) (r .loads) (r .initial) (r .header) (r .body) mac n f st input
       (readerHeld (paramsOf v) r) (length out))
   call-step (Call.Final out) = unfold read in
-      subst (λ (k : AeadResult). Follows v (finalBy k (engineOf v r mac n) .engine)
+      subst (λ (k : AeadResult). Invariant v (finalBy k (engineOf v r mac n) .engine)
       (read v r (Call.Final out) .reader))
       (sym (final-answer v r mac n (length out)))
       (end-step v (r .phase) (r .loads) (r .initial) (r .header) (r .body) mac n f st (length out))
   call-step Call.Reset =
-      unfold read in reset-follows v (r .loads) (r .initial) f (r .phase) (r .header) (r .body) mac n st
+      unfold read in reset-keeps v (r .loads) (r .initial) f (r .phase) (r .header) (r .body) mac n st
   call-step Call.Mac = unfold read in unchanged
   call-step (Call.Update k) = unfold read in unchanged
   call-step (Call.Output k) = unfold read in unchanged
 
 -- ---- Every call, refused or not, and every list of calls
 
-pub follows-step : (v : SparkleVariant) (e : SparkleEngine) (r : Reader) → Follows v e r → (c : Call)
-    → Follows v (step e c .engine) (read v r c .reader)
-follows-step v e r w c =
-    subst (λ (x : SparkleEngine). Follows v (step x c .engine) (read v r c .reader)) (sym (w .same-engine))
-    (call-step v r (w .mac) (w .count) (w .fits) (w .standing) c)
+pub invariant-step : (v : SparkleVariant) (e : SparkleEngine) (r : Reader) → Invariant v e r → (c : Call)
+    → Invariant v (step e c .engine) (read v r c .reader)
+invariant-step v e r w c =
+    subst (λ (x : SparkleEngine). Invariant v (step x c .engine) (read v r c .reader)) (sym (w .same-engine))
+    (call-step v r (w .mac) (w .count) (w .loads-fit) (w .phase-invariant) c)
 
-pub follows-from : (v : SparkleVariant) (e : SparkleEngine) (r : Reader) → Follows v e r → (calls : List Call)
-    → Follows v (runFrom e calls) (readFrom v r calls)
+pub invariant-from : (v : SparkleVariant) (e : SparkleEngine) (r : Reader) → Invariant v e r → (calls : List Call)
+    → Invariant v (runFrom e calls) (readFrom v r calls)
 unfolding runFrom readFrom
-follows-from v e r w [] = w
-follows-from v e r w (c ∷ calls) =
-    follows-from v (step e c .engine) (read v r c .reader) (follows-step v e r w c) calls
+invariant-from v e r w [] = w
+invariant-from v e r w (c ∷ calls) =
+    invariant-from v (step e c .engine) (read v r c .reader) (invariant-step v e r w c) calls
 
-pub follows-run : (v : SparkleVariant) (calls : List Call) → Follows v (run v calls) (reader v calls)
+pub invariant-run : (v : SparkleVariant) (calls : List Call) → Invariant v (run v calls) (reader v calls)
 unfolding run reader
-follows-run v calls = follows-from v (newEngine v) newReader (follows-new v) calls
+invariant-run v calls = invariant-from v (newEngine v) newReader (invariant-new v) calls

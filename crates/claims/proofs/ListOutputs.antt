@@ -1,5 +1,5 @@
 -- Every list of calls, resets included: while a message is under way, the bytes handed out since its start, or since the
--- reset that restarted it, are the specification's; an end that is taken completes them.
+-- reset that restarted it, are the specification's; an accepted end completes them.
 use mathlib.Core.Path.{_≡_, refl, sym, ap, subst, _∙_}
 use mathlib.Core.List.{List, [], _∷_, _++_}
 use Prim.Native.Nat.{ℕ}
@@ -26,10 +26,10 @@ use Rattle.tc_aead_cipher.specs.Outcome.{Outcome}
 use Rattle.claims.specs.Reader.{Reader, newReader, readerHeld, headerPhase, repeated, aadPhase, dataPhase, readStart}
 use Rattle.claims.specs.Reader.{readHeader, readMessage, endBy, endIn, readEnd, resetIn, read, readFrom, reader}
 use Rattle.claims.specs.Messages.{countOf, wrote, handedBy, handed, UnderWay, released, finishedBytes}
-use Rattle.claims.proofs.Kept.{Follows, follows-new}
-use Rattle.claims.proofs.Follows.{follows-step}
-use Rattle.claims.proofs.Written.{end-refused}
-use Rattle.claims.proofs.Whole.{released-none, released-step, wrote-refused, unwritten}
+use Rattle.claims.proofs.Invariant.{Invariant, invariant-new}
+use Rattle.claims.proofs.InvariantKept.{invariant-step}
+use Rattle.claims.proofs.CallOutputs.{end-refused}
+use Rattle.claims.proofs.UnrefusedMessages.{released-none, released-step, wrote-refused, unwritten}
 use Rattle.claims.proofs.Demand2.{passed, end-bytes}
 
 -- ---- A message that is under way after a call was so before it, or has just begun.
@@ -90,7 +90,7 @@ reset-nothing (Final Decrypt) p r is u = sym (released-none p _ _ (headerPhase D
 -- ---- A call, and a list of calls.
 
 module _ (v : SparkleVariant) where
-  so-far-step : (e : SparkleEngine) (r : Reader) → Follows v e r → (c : Call) (before : List ℕ)
+  so-far-step : (e : SparkleEngine) (r : Reader) → Invariant v e r → (c : Call) (before : List ℕ)
       → (UnderWay (r .phase) → before ≡ released (paramsOf v) r) → UnderWay (read v r c .reader .phase)
       → handedBy c before (wrote (step e c)) ≡ released (paramsOf v) (read v r c .reader)
   unfolding read
@@ -124,21 +124,21 @@ module _ (v : SparkleVariant) where
   so-far-step e r w (Call.Output n) before was u =
       ap (λ (l : List ℕ). l ++ wrote (step e (Call.Output n))) (was u) ∙ sym (released-step v e r w (Call.Output n) tt)
 
-  so-far-from : (e : SparkleEngine) (r : Reader) → Follows v e r → (calls : List Call) (before : List ℕ)
+  so-far-from : (e : SparkleEngine) (r : Reader) → Invariant v e r → (calls : List Call) (before : List ℕ)
       → (UnderWay (r .phase) → before ≡ released (paramsOf v) r) → UnderWay (readFrom v r calls .phase)
       → handed e before calls ≡ released (paramsOf v) (readFrom v r calls)
   unfolding readFrom handed
   so-far-from e r w [] before was u = was u
   so-far-from e r w (c ∷ calls) before was u =
-      so-far-from (step e c .engine) (read v r c .reader) (follows-step v e r w c) calls _
+      so-far-from (step e c .engine) (read v r c .reader) (invariant-step v e r w c) calls _
       (λ now. so-far-step e r w c before was now) u
 
   pub so-far : (calls : List Call) → UnderWay (reader v calls .phase)
       → handed (newEngine v) [] calls ≡ released (paramsOf v) (reader v calls)
   unfolding reader
-  so-far calls u = so-far-from (newEngine v) newReader (follows-new v) calls [] (λ none. absurd none) u
+  so-far calls u = so-far-from (newEngine v) newReader (invariant-new v) calls [] (λ none. absurd none) u
 
--- ---- An end that is taken.
+-- ---- An accepted end.
 
 handed-append : (e : SparkleEngine) (before : List ℕ) (xs ys : List Call)
     → handed e before (xs ++ ys) ≡ handed (runFrom e xs) (handed e before xs) ys

@@ -1,4 +1,4 @@
--- What each call of a list writes and answers, on an engine that follows the reader.
+-- What each call of a list writes and answers, on an engine and a reader between which the invariant holds.
 use mathlib.Core.Path.{_≡_, refl, sym, ap, ap₂, subst, _∙_}
 use mathlib.Core.Bool.{Bool, true, false, cond}
 use mathlib.Core.List.{List, [], _∷_, _++_}
@@ -31,26 +31,26 @@ use Rattle.claims.specs.Refused.{Active}
 use Rattle.claims.specs.Reader.{Reader, readerHeld, inPhase, readMessage, read, Load, loadedKey, loadedNonce, lastKey}
 use Rattle.claims.specs.Reader.{lastNonce}
 use Rattle.claims.specs.Messages.{released, Writes, messageOf, EndsWith}
-use Rattle.claims.proofs.Packets.{length-body}
-use Rattle.claims.proofs.Kept.{Follows, Standing, engineOf, openedMac, Remembers, isLoaded}
-use Rattle.claims.proofs.Follows.{kept, inData, active-enough, begin-data, active-loaded, opening-verified}
-use Rattle.claims.proofs.Follows.{seal-engine, open-engine, data-answer, final-answer}
-use Rattle.claims.proofs.Accepted.{data-good, end-good, data-takes, end-takes, EndPassed, released-data, writes}
-use Rattle.claims.proofs.Accepted.{message-writes, seal-bytes, seal-length, open-bytes, open-length, last-length}
-use Rattle.claims.proofs.Accepted.{is-open, end-count, active-opening}
+use Rattle.claims.proofs.OpeningEnd.{length-body}
+use Rattle.claims.proofs.Invariant.{Invariant, PhaseInvariant, engineOf, openedMac, LoadsFit, isLoaded}
+use Rattle.claims.proofs.InvariantKept.{readerOf, inData, active-enough, begin-data, active-loaded, opening-verified}
+use Rattle.claims.proofs.InvariantKept.{seal-engine, open-engine, data-answer, final-answer}
+use Rattle.claims.proofs.Accepted.{data-good, end-good, data-passed-active, end-passed-active, EndPassed}
+use Rattle.claims.proofs.Accepted.{released-data, writes, message-writes, seal-bytes, seal-length, open-bytes}
+use Rattle.claims.proofs.Accepted.{open-length, last-length, is-open, end-count, active-opening}
 
 -- What an end past its checks answers and writes: a sealing's, and an opening's, by whether the packet is verified.
-pub record SealEnd (v : SparkleVariant) (r : Reader) (out : List ℕ) (n : ℕ) (left : StepResult) : Type 0 where
-  pub outcome-is : left .outcome ≡ Outcome.ok n
+pub record SealEnd (v : SparkleVariant) (r : Reader) (out : List ℕ) (n : ℕ) (result : StepResult) : Type 0 where
+  pub outcome-is : result .outcome ≡ Outcome.ok n
   pub bytes-are : Writes (released (paramsOf v) r) (seal (paramsOf v) (loadedKey r) (loadedNonce r) (r .header) (r .body)) out
-      (left .buffer) n
+      (result .buffer) n
 
-pub record OpenEnd (v : SparkleVariant) (r : Reader) (out : List ℕ) (n : ℕ) (good : Bool) (left : StepResult) : Type 0 where
-  pub outcome-is : left .outcome ≡ cond good (Outcome.ok n) (Outcome.no (6 ∷ []))
+pub record OpenEnd (v : SparkleVariant) (r : Reader) (out : List ℕ) (n : ℕ) (good : Bool) (result : StepResult) : Type 0 where
+  pub outcome-is : result .outcome ≡ cond good (Outcome.ok n) (Outcome.no (6 ∷ []))
   pub good-bytes : good ≡ true
       → Writes (released (paramsOf v) r) (decrypt (paramsOf v) (loadedKey r) (loadedNonce r) (r .header)
-      (bodyOf (paramsOf v) (r .body))) out (left .buffer) n
-  pub bad-bytes : good ≡ false → left .buffer ≡ zeros n ++ drop n out
+      (bodyOf (paramsOf v) (r .body))) out (result .buffer) n
+  pub bad-bytes : good ≡ false → result .buffer ≡ zeros n ++ drop n out
 
 pub outcome-ok : (k : AeadResult) (n : ℕ) → outcome k ≡ Outcome.ok n → k ≡ Ok n
 outcome-ok (Ok m) n e = let z : m ≡ n = cc in ap Ok z
@@ -63,7 +63,7 @@ data-answered (Err x) e input = refl
 -- ---- A data call
 
 -- its answer is the reader's check
-pub message-outcome : (v : SparkleVariant) (e : SparkleEngine) (r : Reader) → Follows v e r → (input out : List ℕ)
+pub message-outcome : (v : SparkleVariant) (e : SparkleEngine) (r : Reader) → Invariant v e r → (input out : List ℕ)
     → step e (Call.Data input out) .outcome
     ≡ outcome (dataCheck (paramsOf v) (r .phase) (readerHeld (paramsOf v) r) (length input) (length out))
 unfolding step processBytes
@@ -73,7 +73,7 @@ message-outcome v e r w input out =
     ∙ ap outcome (data-answered (dataAnswer E (length input) (length out)) E input ∙ data-answer v r (w .mac) (w .count)
     (length input) (length out))
 
-pub message-writes-next : (v : SparkleVariant) (e : SparkleEngine) (r : Reader) → Follows v e r
+pub message-writes-next : (v : SparkleVariant) (e : SparkleEngine) (r : Reader) → Invariant v e r
     → (input out : List ℕ) (n : ℕ)
     → step e (Call.Data input out) .outcome ≡ Outcome.ok n
     → Writes (released (paramsOf v) r) (released (paramsOf v) (read v r (Call.Data input out) .reader)) out
@@ -86,14 +86,14 @@ message-writes-next v e r w input out n o =
     outcome-ok _ n (sym (message-outcome v e r w input out) ∙ o) in
     let A : dataAnswer E (length input) (length out) ≡ Ok n =
     data-answer v r (w .mac) (w .count) (length input) (length out) ∙ K in
-    let t = data-takes p (r .phase) (readerHeld p r) (length input) (length out) n K in
+    let t = data-passed-active p (r .phase) (readerHeld p r) (length input) (length out) n K in
     subst (λ (x : SparkleEngine). Writes (released p r) (released p (read v r (Call.Data input out) .reader)) out
     (processBytesOut x input out) n)
     (sym (w .same-engine))
     (subst (λ (k : AeadResult). Writes (released p r) (released p (readMessage k r input .reader)) out (processBytesOut E input out) n) (sym K)
     (subst (λ (k : AeadResult). Writes (released p r) (released p (readMessage (Ok n) r input .reader)) out (dataOutBy k E input out) n) (sym A)
-    (message-writes v (r .loads) (r .initial) (w .fits) (r .header) (r .body) (w .mac) (w .count) (t .1)
-    (w .standing) input out n
+    (message-writes v (r .loads) (r .initial) (w .loads-fit) (r .header) (r .body) (w .mac) (w .count) (t .1)
+    (w .phase-invariant) input out n
     (data-good p (r .phase) (readerHeld p r) (length input) (length out) n K))))
 
 -- ---- An end past its checks
@@ -104,17 +104,17 @@ wiped m n out e =
     ap₂ (λ (i j : ℕ). zeros i ++ drop j out) e (length-replicate m 0 ∙ e)
 
 module _ (v : SparkleVariant) (loads : List Load) (initial header body : List ℕ) (mac : Mac) (c : ℕ)
-    (f : Remembers (paramsOf v) loads) (out : List ℕ) (n : ℕ) where
+    (f : LoadsFit (paramsOf v) loads) (out : List ℕ) (n : ℕ) where
   abbrev key : List ℕ
   key = lastKey loads
 
   abbrev nonce : List ℕ
   nonce = lastNonce loads
 
-  sealed-end : {phase : Phase} → Active Encrypt phase → Standing (paramsOf v) phase loads initial header body mac c
+  sealed-end : {phase : Phase} → Active Encrypt phase → PhaseInvariant (paramsOf v) phase loads initial header body mac c
       → (b : Bool) → b ≡ false → (e : SparkleEngine) → e ≡ inData v loads initial Encrypt header body
-      → EndPassed (paramsOf v) phase (readerHeld (paramsOf v) (kept loads initial phase header body)) (length out) n
-      → SealEnd v (kept loads initial phase header body) out n
+      → EndPassed (paramsOf v) phase (readerHeld (paramsOf v) (readerOf loads initial phase header body)) (length out) n
+      → SealEnd v (readerOf loads initial phase header body) out n
       (record {
         engine = cond b (openFinal e n) (sealFinal e n) .engine;
         outcome = outcome (cond b (openFinal e n) (sealFinal e n) .answer);
@@ -128,7 +128,7 @@ module _ (v : SparkleVariant) (loads : List Load) (initial header body : List �
       record {
         outcome-is = refl;
         bytes-are =
-            writes (released p (kept loads initial phase header body)) (seal p key nonce header body) out
+            writes (released p (readerOf loads initial phase header body)) (seal p key nonce header body) out
             (sealLast e ++ sealTag e) n
             (seal-bytes v loads initial f header body mac c l
             ∙ ap₂ (λ (x : List ℕ) (y : SparkleEngine). x ++ (sealLast y ++ sealTag y))
@@ -138,11 +138,11 @@ module _ (v : SparkleVariant) (loads : List Load) (initial header body : List �
             (ok .fits);
       }
 
-  opened-end : {phase : Phase} → Active Decrypt phase → Standing (paramsOf v) phase loads initial header body mac c
+  opened-end : {phase : Phase} → Active Decrypt phase → PhaseInvariant (paramsOf v) phase loads initial header body mac c
       → (b : Bool) → b ≡ true → (e : SparkleEngine) → e ≡ inData v loads initial Decrypt header body
       → paramsOf v .key ≤ length body
-      → EndPassed (paramsOf v) phase (readerHeld (paramsOf v) (kept loads initial phase header body)) (length out) n
-      → OpenEnd v (kept loads initial phase header body) out n (verified (paramsOf v) key nonce header body)
+      → EndPassed (paramsOf v) phase (readerHeld (paramsOf v) (readerOf loads initial phase header body)) (length out) n
+      → OpenEnd v (readerOf loads initial phase header body) out n (verified (paramsOf v) key nonce header body)
       (record {
         engine = cond b (openFinal e n) (sealFinal e n) .engine;
         outcome = outcome (cond b (openFinal e n) (sealFinal e n) .answer);
@@ -153,20 +153,20 @@ module _ (v : SparkleVariant) (loads : List Load) (initial header body : List �
   opened-end {phase} t st true is-opening e is enough ok =
       let p = paramsOf v in
       let l = active-loaded v loads initial f t header body mac c st in
-      subst (λ (g : Bool). OpenEnd v (kept loads initial phase header body) out n
+      subst (λ (g : Bool). OpenEnd v (readerOf loads initial phase header body) out n
       (verified p key nonce header body)
       (record { engine = openFinalBy g e n .engine; outcome = outcome (openFinalBy g e n .answer); buffer = written (openEndOut g e) out }))
       (sym (ap (λ (y : SparkleEngine). same (receivedTag y) (openTag y)) is ∙ opening-verified v loads initial f l header body enough))
       (by l (verified p key nonce header body))
     where
-      by : isLoaded loads ≡ true → (g : Bool) → OpenEnd v (kept loads initial phase header body) out n g
+      by : isLoaded loads ≡ true → (g : Bool) → OpenEnd v (readerOf loads initial phase header body) out n g
           (record { engine = openFinalBy g e n .engine; outcome = outcome (openFinalBy g e n .answer); buffer = written (openEndOut g e) out })
       by l true =
           let p = paramsOf v in
           record {
             outcome-is = refl;
             good-bytes = λ _.
-                writes (released p (kept loads initial phase header body))
+                writes (released p (readerOf loads initial phase header body))
                 (decrypt p key nonce header (bodyOf p body)) out (openLast e) n
                 (open-bytes v loads initial f header body mac c l enough
                 ∙ ap₂ (λ (x : List ℕ) (y : SparkleEngine). x ++ openLast y)
@@ -187,12 +187,12 @@ module _ (v : SparkleVariant) (loads : List Load) (initial header body : List �
           }
 
 -- the results of a step
-module _ (v : SparkleVariant) (r : Reader) (mac : Mac) (c : ℕ) (f : Remembers (paramsOf v) (r .loads))
-    (st : Standing (paramsOf v) (r .phase) (r .loads) (r .initial) (r .header) (r .body) mac c)
+module _ (v : SparkleVariant) (r : Reader) (mac : Mac) (c : ℕ) (f : LoadsFit (paramsOf v) (r .loads))
+    (st : PhaseInvariant (paramsOf v) (r .phase) (r .loads) (r .initial) (r .header) (r .body) mac c)
     (out : List ℕ) (n : ℕ) (passed : endCheck (paramsOf v) (r .phase) (readerHeld (paramsOf v) r) (length out) ≡ Ok n) where
   -- the step of an end past its checks
-  abbrev leftBy : AeadResult → StepResult
-  leftBy k =
+  abbrev resultBy : AeadResult → StepResult
+  resultBy k =
       record {
         engine = finalBy k (engineOf v r mac c) .engine;
         outcome = outcome
@@ -200,9 +200,9 @@ module _ (v : SparkleVariant) (r : Reader) (mac : Mac) (c : ℕ) (f : Remembers 
         buffer = finalOutBy k (engineOf v r mac c) out;
       }
 
-  step-is : step (engineOf v r mac c) (Call.Final out) ≡ leftBy (Ok n)
+  step-is : step (engineOf v r mac c) (Call.Final out) ≡ resultBy (Ok n)
   unfolding step doFinal doFinalOut
-  step-is = ap leftBy (final-answer v r mac c (length out) ∙ passed)
+  step-is = ap resultBy (final-answer v r mac c (length out) ∙ passed)
 
   -- what the checks tell, the direction, and the engine in which the data begins
   good : EndPassed (paramsOf v) (r .phase) (readerHeld (paramsOf v) r) (length out) n
@@ -305,39 +305,39 @@ module _ (v : SparkleVariant) (r : Reader) (e : SparkleEngine) where
             (sym (length-decrypt p (sizes v) (loadedKey r) (loadedNonce r) (r .header) c ∙ length-body p (r .body) enough)));
       }
 
--- an end past its checks, on an engine that follows the reader
-pub seal-end : (v : SparkleVariant) (e : SparkleEngine) (r : Reader) → Follows v e r → (out : List ℕ) (n : ℕ)
+-- an end past its checks, where the invariant holds
+pub seal-end : (v : SparkleVariant) (e : SparkleEngine) (r : Reader) → Invariant v e r → (out : List ℕ) (n : ℕ)
     → endCheck (paramsOf v) (r .phase) (readerHeld (paramsOf v) r) (length out) ≡ Ok n → opening (r .phase) ≡ false
     → SealEnd v r out n (step e (Call.Final out))
 seal-end v e r w out n passed no-open =
     subst (λ (x : SparkleEngine). SealEnd v r out n (step x (Call.Final out))) (sym (w .same-engine))
-    (let t = end-takes (paramsOf v) (r .phase) (readerHeld (paramsOf v) r) (length out) n passed in by (t .0) (t .1))
+    (let t = end-passed-active (paramsOf v) (r .phase) (readerHeld (paramsOf v) r) (length out) n passed in by (t .0) (t .1))
   where
     by : (d : Direction) → Active d (r .phase) → SealEnd v r out n (step (engineOf v r (w .mac) (w .count)) (Call.Final out))
-    by Encrypt t = seal-step v r (w .mac) (w .count) (w .fits) (w .standing) out n passed t
+    by Encrypt t = seal-step v r (w .mac) (w .count) (w .loads-fit) (w .phase-invariant) out n passed t
     by Decrypt t = absurd (let o = active-opening t in let z : _≡_ {A = ℕ} 0 1 = cc in omega arith)
 
-pub open-end : (v : SparkleVariant) (e : SparkleEngine) (r : Reader) → Follows v e r → (out : List ℕ) (n : ℕ)
+pub open-end : (v : SparkleVariant) (e : SparkleEngine) (r : Reader) → Invariant v e r → (out : List ℕ) (n : ℕ)
     → endCheck (paramsOf v) (r .phase) (readerHeld (paramsOf v) r) (length out) ≡ Ok n → opening (r .phase) ≡ true
     → OpenEnd v r out n (verified (paramsOf v) (loadedKey r) (loadedNonce r) (r .header) (r .body)) (step e (Call.Final out))
 open-end v e r w out n passed is-opening =
     subst (λ (x : SparkleEngine). OpenEnd v r out n (verified (paramsOf v) (loadedKey r) (loadedNonce r) (r .header) (r .body))
     (step x (Call.Final out)))
     (sym (w .same-engine))
-    (let t = end-takes (paramsOf v) (r .phase) (readerHeld (paramsOf v) r) (length out) n passed in by (t .0) (t .1))
+    (let t = end-passed-active (paramsOf v) (r .phase) (readerHeld (paramsOf v) r) (length out) n passed in by (t .0) (t .1))
   where
     by : (d : Direction) → Active d (r .phase)
         → OpenEnd v r out n (verified (paramsOf v) (loadedKey r) (loadedNonce r) (r .header) (r .body))
         (step (engineOf v r (w .mac) (w .count)) (Call.Final out))
     by Encrypt t = absurd (let o = active-opening t in let z : _≡_ {A = ℕ} 0 1 = cc in omega arith)
-    by Decrypt t = open-step v r (w .mac) (w .count) (w .fits) (w .standing) out n passed t
+    by Decrypt t = open-step v r (w .mac) (w .count) (w .loads-fit) (w .phase-invariant) out n passed t
 
 -- an end that is refused by its checks answers that refusal
 final-refused : (k : AeadResult) (x : AeadError) (e : SparkleEngine) → k ≡ Err x → finalBy k e .answer ≡ Err x
 final-refused (Ok n) x e h = absurd (let z : _≡_ {A = ℕ} 0 1 = cc in omega arith)
 final-refused (Err y) x e h = h
 
-pub end-refused : (v : SparkleVariant) (e : SparkleEngine) (r : Reader) → Follows v e r → (out : List ℕ) (x : AeadError)
+pub end-refused : (v : SparkleVariant) (e : SparkleEngine) (r : Reader) → Invariant v e r → (out : List ℕ) (x : AeadError)
     → endCheck (paramsOf v) (r .phase) (readerHeld (paramsOf v) r) (length out) ≡ Err x
     → step e (Call.Final out) .outcome ≡ Outcome.no (refusal x)
 unfolding step doFinal
@@ -346,13 +346,13 @@ end-refused v e r w out x h =
     ap (λ (y : SparkleEngine). outcome (finalBy (finalAnswer y (length out)) y .answer)) (w .same-engine)
     ∙ ap outcome (final-refused (finalAnswer K (length out)) x K (final-answer v r (w .mac) (w .count) (length out) ∙ h))
 
-pub end-ended : (v : SparkleVariant) (e : SparkleEngine) (r : Reader) → Follows v e r → (out : List ℕ) (n : ℕ)
+pub end-ended : (v : SparkleVariant) (e : SparkleEngine) (r : Reader) → Invariant v e r → (out : List ℕ) (n : ℕ)
     → endCheck (paramsOf v) (r .phase) (readerHeld (paramsOf v) r) (length out) ≡ Ok n
     → EndsWith v r (cond (opening (r .phase)) (verified (paramsOf v) (loadedKey r) (loadedNonce r) (r .header) (r .body)) true)
     (step e (Call.Final out) .engine)
 end-ended v e r w out n passed =
     subst (λ (x : SparkleEngine). EndsWith v r good (step x (Call.Final out) .engine)) (sym (w .same-engine))
-    (let t = end-takes (paramsOf v) (r .phase) (readerHeld (paramsOf v) r) (length out) n passed in by (t .0) (t .1))
+    (let t = end-passed-active (paramsOf v) (r .phase) (readerHeld (paramsOf v) r) (length out) n passed in by (t .0) (t .1))
   where
     good : Bool
     good = cond (opening (r .phase)) (verified (paramsOf v) (loadedKey r) (loadedNonce r) (r .header) (r .body)) true
@@ -360,9 +360,9 @@ end-ended v e r w out n passed =
     by : (d : Direction) → Active d (r .phase)
         → EndsWith v r good (step (engineOf v r (w .mac) (w .count)) (Call.Final out) .engine)
     by Encrypt t =
-        ended-sealing v r _ (active-opening t) (seal-engine-step v r (w .mac) (w .count) (w .fits)
-        (w .standing) out n passed t)
+        ended-sealing v r _ (active-opening t) (seal-engine-step v r (w .mac) (w .count) (w .loads-fit)
+        (w .phase-invariant) out n passed t)
     by Decrypt t =
         ended-opening v r _ (active-opening t)
         (active-enough (paramsOf v) (sizes v) t (r .body) (length out) n passed)
-        (open-engine-step v r (w .mac) (w .count) (w .fits) (w .standing) out n passed t)
+        (open-engine-step v r (w .mac) (w .count) (w .loads-fit) (w .phase-invariant) out n passed t)

@@ -26,13 +26,13 @@ use Rattle.claims.specs.Messages.{released, finishedBytes}
 use Rattle.claims.specs.Machine.{engine, linesOf, sheetOf, bytesOf, Piece, dataCalls, joined, pieceCalls, AllOk, after}
 use Rattle.claims.specs.Machine.{handedOf, Demand2}
 use Rattle.claims.specs.Machine.AllOk.{none, more}
-use Rattle.claims.proofs.Kept.{Follows}
-use Rattle.claims.proofs.Follows.{follows-step, follows-run}
-use Rattle.claims.proofs.Written.{outcome-ok}
-use Rattle.claims.proofs.Whole.{startedReader, start-follows, sealed-taken, opened-taken}
-use Rattle.claims.proofs.SoFar.{so-far, finished}
-use Rattle.claims.proofs.Meets.{answered}
-use Rattle.claims.proofs.EngineMeets.{linked, engine-answered}
+use Rattle.claims.proofs.Invariant.{Invariant}
+use Rattle.claims.proofs.InvariantKept.{invariant-step, invariant-run}
+use Rattle.claims.proofs.CallOutputs.{outcome-ok}
+use Rattle.claims.proofs.UnrefusedMessages.{startedReader, start-invariant, sealed-accepted, opened-accepted}
+use Rattle.claims.proofs.ListOutputs.{so-far, finished}
+use Rattle.claims.proofs.MachineDemand3.{answered}
+use Rattle.claims.proofs.EngineDemand3.{linked, engine-answered}
 use Rattle.claims.proofs.Shown.{engine-shown}
 use Rattle.claims.proofs.EngineCounts.{engine-counted}
 
@@ -57,7 +57,7 @@ messages-between e [] = tt
 messages-between e (x ∷ pieces) = (tt, messages-between (step e (Call.Data (x .input) (x .out)) .engine) pieces)
 
 -- An accepted data call appends its input.
-message-read : (v : SparkleVariant) (e : SparkleEngine) (r : Reader) → Follows v e r → (input out : List ℕ) (n : ℕ)
+message-read : (v : SparkleVariant) (e : SparkleEngine) (r : Reader) → Invariant v e r → (input out : List ℕ) (n : ℕ)
     → step e (Call.Data input out) .outcome ≡ ok n
     → (read v r (Call.Data input out) .reader .header ≡ r .header)
     × (read v r (Call.Data input out) .reader .body ≡ r .body ++ input)
@@ -71,21 +71,21 @@ message-read v e r w input out n q =
     (ap (λ (k : AeadResult). readMessage k r input .reader .header) c, ap (λ (k : AeadResult). readMessage k r input .reader .body) c)
 
 -- what data calls and an end without refusal leave
-record Gone (v : SparkleVariant) (pieces : List Piece) (out : List ℕ) (e : SparkleEngine) (r : Reader) : Type 0 where
+record PiecesAccepted (v : SparkleVariant) (pieces : List Piece) (out : List ℕ) (e : SparkleEngine) (r : Reader) : Type 0 where
   count : ℕ
   end-ok : step (runFrom e (messages pieces)) (Call.Final out) .outcome ≡ ok count
   header-is : readFrom v r (messages pieces) .header ≡ r .header
   body-is : readFrom v r (messages pieces) .body ≡ r .body ++ joined pieces
 
-gone : (v : SparkleVariant) (pieces : List Piece) (out : List ℕ) (e : SparkleEngine) (r : Reader) → Follows v e r
-    → AllOk (linesOf engine e (dataCalls pieces out)) → Gone v pieces out e r
+pieces-accepted : (v : SparkleVariant) (pieces : List Piece) (out : List ℕ) (e : SparkleEngine) (r : Reader) → Invariant v e r
+    → AllOk (linesOf engine e (dataCalls pieces out)) → PiecesAccepted v pieces out e r
 unfolding runFrom readFrom line
-gone v [] out e r w (more n q none) =
+pieces-accepted v [] out e r w (more n q none) =
     record { count = n; end-ok = q; header-is = refl; body-is = sym (append-nil (r .body)) }
-gone v (x ∷ pieces) out e r w (more n q all) =
+pieces-accepted v (x ∷ pieces) out e r w (more n q all) =
     let p = paramsOf v in
     let c = Call.Data (x .input) (x .out) in
-    let g = gone v pieces out (step e c .engine) (read v r c .reader) (follows-step v e r w c) all in
+    let g = pieces-accepted v pieces out (step e c .engine) (read v r c .reader) (invariant-step v e r w c) all in
     let m = message-read v e r w (x .input) (x .out) n q in
     record {
       count = g .count;
@@ -99,10 +99,10 @@ gone v (x ∷ pieces) out e r w (more n q all) =
 module _ (v : SparkleVariant) (d : Direction) (key nonce header : List ℕ) (size : ℕ) (pieces : List Piece) (out : List ℕ)
     (k : ℕ) (taken : step (run v []) (Call.Init d key nonce size header) .outcome ≡ ok k)
     (all : AllOk (linesOf engine (startedEngine v [] d key nonce size header) (dataCalls pieces out))) where
-  left : Gone v pieces out (startedEngine v [] d key nonce size header) (startedReader (reader v []) d key nonce header)
-  left =
-      gone v pieces out (startedEngine v [] d key nonce size header) (startedReader (reader v []) d key nonce header)
-      (start-follows v [] d key nonce size header (messages pieces) out k taken
+  pieces-of-message : PiecesAccepted v pieces out (startedEngine v [] d key nonce size header) (startedReader (reader v []) d key nonce header)
+  pieces-of-message =
+      pieces-accepted v pieces out (startedEngine v [] d key nonce size header) (startedReader (reader v []) d key nonce header)
+      (start-invariant v [] d key nonce size header (messages pieces) out k taken
       (messages-between (startedEngine v [] d key nonce size header) pieces)) all
 
   written-outputs : bytesOf engine (newEngine v) (pieceCalls d key nonce header size pieces out)
@@ -118,9 +118,9 @@ module _ (v : SparkleVariant) (key nonce header : List ℕ) (size : ℕ) (pieces
       ≡ seal (paramsOf v) key nonce header (joined pieces)
   unfolding run runFrom line
   engine-seals (more k q all) =
-      let g = left v Encrypt key nonce header size pieces out k q all in
+      let g = pieces-of-message v Encrypt key nonce header size pieces out k q all in
       written-outputs v Encrypt key nonce header size pieces out k q all
-      ∙ sealed-taken v [] key nonce size header (messages pieces) out k (g .count) q
+      ∙ sealed-accepted v [] key nonce size header (messages pieces) out k (g .count) q
       (messages-between (startedEngine v [] Encrypt key nonce size header) pieces) (g .end-ok)
       ∙ ap₂ (λ (h m : List ℕ). seal (paramsOf v) key nonce h m) (g .header-is) (g .body-is)
 
@@ -129,9 +129,9 @@ module _ (v : SparkleVariant) (key nonce header : List ℕ) (size : ℕ) (pieces
       ≡ decrypt (paramsOf v) key nonce header (body (paramsOf v) (joined pieces))
   unfolding run runFrom line
   engine-opens (more k q all) =
-      let g = left v Decrypt key nonce header size pieces out k q all in
+      let g = pieces-of-message v Decrypt key nonce header size pieces out k q all in
       written-outputs v Decrypt key nonce header size pieces out k q all
-      ∙ opened-taken v [] key nonce size header (messages pieces) out k (g .count) q
+      ∙ opened-accepted v [] key nonce size header (messages pieces) out k (g .count) q
       (messages-between (startedEngine v [] Decrypt key nonce size header) pieces) (g .end-ok) .bytes-are
       ∙ ap₂ (λ (h m : List ℕ). decrypt (paramsOf v) key nonce h (body (paramsOf v) m)) (g .header-is) (g .body-is)
 
@@ -163,7 +163,7 @@ variant-is : (v : SparkleVariant) (calls : List Call) → after engine (newEngin
 unfolding run
 variant-is v calls =
     ap (λ (e : SparkleEngine). e .variant) (after-is (newEngine v) calls)
-    ∙ ap (λ (e : SparkleEngine). e .variant) (follows-run v calls .same-engine)
+    ∙ ap (λ (e : SparkleEngine). e .variant) (invariant-run v calls .same-engine)
 
 engine-mac-counts : (v : SparkleVariant) (before : List Call)
     → engine .step (after engine (engine .new v) before) Call.Mac .line .outcome

@@ -1,5 +1,6 @@
--- What the engine is after a list of calls, from what the reader keeps, and what holds in each phase; with the laws of the
--- parts of a call on such an engine: its points, its step count and its checks.
+-- The invariant between the engine and the reader after a list of calls: what the engine is, from what the reader keeps,
+-- and what holds in each phase; with the laws of the parts of a call on such an engine: its points, its step count, its
+-- loads and its checks.
 use mathlib.Core.Path.{_≡_, refl, sym, ap, ap₂, _∙_}
 use mathlib.Core.Bool.{Bool, true, false, cond, _&&_, _||_}
 use mathlib.Core.List.{List, [], _∷_, _++_}
@@ -96,10 +97,10 @@ engineOf v r mac n =
 -- ---- What holds in a phase
 
 -- A sealing in Final was reset or has ended.
-pub data Sealed (p : Params) (key nonce initial header body : List ℕ) (mac : Mac) (n : ℕ) : Type 0 where
-  stopped : mac ≡ noMac → n ≡ headCount p (length initial) → Sealed p key nonce initial header body mac n
-  finished : mac ≡ readable (tag p key nonce header body) → n ≡ steps p (length header) (length body) % 2 ^ 64
-      → Sealed p key nonce initial header body mac n
+pub data SealingFinal (p : Params) (key nonce initial header body : List ℕ) (mac : Mac) (n : ℕ) : Type 0 where
+  was-reset : mac ≡ noMac → n ≡ headCount p (length initial) → SealingFinal p key nonce initial header body mac n
+  has-ended : mac ≡ readable (tag p key nonce header body) → n ≡ steps p (length header) (length body) % 2 ^ 64
+      → SealingFinal p key nonce initial header body mac n
 
 -- The tag that can be read after an opening's end.
 unfoldable pub openedMac : Params → (key nonce header packet : List ℕ) → Mac
@@ -112,17 +113,17 @@ abbrev pub isLoaded : List Load → Bool
 isLoaded [] = false
 isLoaded (l ∷ loads) = true
 
-abbrev pub Standing : Params → Phase → List Load → (initial header body : List ℕ) → Mac → ℕ → Type 0
-Standing p Uninitialized loads initial header body mac n = (mac ≡ noMac) × (n ≡ 0)
-Standing p (Init d) loads initial header body mac n =
+abbrev pub PhaseInvariant : Params → Phase → List Load → (initial header body : List ℕ) → Mac → ℕ → Type 0
+PhaseInvariant p Uninitialized loads initial header body mac n = (mac ≡ noMac) × (n ≡ 0)
+PhaseInvariant p (Init d) loads initial header body mac n =
     (isLoaded loads ≡ true) × (mac ≡ noMac) × (n ≡ headCount p (length header)) × (header ≡ []) × (body ≡ [])
-Standing p (Aad d) loads initial header body mac n =
+PhaseInvariant p (Aad d) loads initial header body mac n =
     (isLoaded loads ≡ true) × (mac ≡ noMac) × (n ≡ headCount p (length header)) × (0 < length header) × (body ≡ [])
-Standing p (Data d) loads initial header body mac n =
+PhaseInvariant p (Data d) loads initial header body mac n =
     (isLoaded loads ≡ true) × (mac ≡ noMac) × (n ≡ dataCount p d header body)
-Standing p (Final Encrypt) loads initial header body mac n =
-    (isLoaded loads ≡ true) × Sealed p (lastKey loads) (lastNonce loads) initial header body mac n
-Standing p (Final Decrypt) loads initial header body mac n =
+PhaseInvariant p (Final Encrypt) loads initial header body mac n =
+    (isLoaded loads ≡ true) × SealingFinal p (lastKey loads) (lastNonce loads) initial header body mac n
+PhaseInvariant p (Final Decrypt) loads initial header body mac n =
     (isLoaded loads ≡ true) × (mac ≡ openedMac p (lastKey loads) (lastNonce loads) header body)
     × (n ≡ steps p (length header) (length body - p .key) % 2 ^ 64) × (p .key ≤ length body)
 
@@ -136,27 +137,27 @@ abbrev pub AllFit : Params → List Load → Type 0
 AllFit p [] = Unit {0}
 AllFit p (l ∷ loads) = Fits p (l .key) (l .nonce) × AllFit p loads
 
-pub record Remembers (p : Params) (loads : List Load) : Type 0 where
+pub record LoadsFit (p : Params) (loads : List Load) : Type 0 where
   pub at-most : length loads ≤ remembered
   pub all-fit : AllFit p loads
 
-pub record Follows (v : SparkleVariant) (e : SparkleEngine) (r : Reader) : Type 0 where
+pub record Invariant (v : SparkleVariant) (e : SparkleEngine) (r : Reader) : Type 0 where
   pub mac : Mac
   pub count : ℕ
   pub same-engine : e ≡ engineOf v r mac count
-  pub fits : Remembers (paramsOf v) (r .loads)
-  pub standing : Standing (paramsOf v) (r .phase) (r .loads) (r .initial) (r .header)
+  pub loads-fit : LoadsFit (paramsOf v) (r .loads)
+  pub phase-invariant : PhaseInvariant (paramsOf v) (r .phase) (r .loads) (r .initial) (r .header)
       (r .body) mac count
 
-pub follows-new : (v : SparkleVariant) → Follows v (newEngine v) newReader
+pub invariant-new : (v : SparkleVariant) → Invariant v (newEngine v) newReader
 unfolding newEngine noSteps
-follows-new v =
+invariant-new v =
     record {
       mac = noMac;
       count = 0;
       same-engine = refl;
-      fits = record { at-most = omega arith; all-fit = tt };
-      standing = (refl, refl);
+      loads-fit = record { at-most = omega arith; all-fit = tt };
+      phase-invariant = (refl, refl);
     }
 
 -- ---- The parts of a call
@@ -355,16 +356,16 @@ take-fits p zero loads f = tt
 take-fits p (suc n) [] f = tt
 take-fits p (suc n) (l ∷ loads) f = (f .0, take-fits p n loads (f .1))
 
-pub load-remembers : (p : Params) (loads : List Load) (key nonce : List ℕ) → Remembers p loads → Fits p key nonce
-    → Remembers p (load loads key nonce)
-load-remembers p loads key nonce f g =
+pub load-fits : (p : Params) (loads : List Load) (key nonce : List ℕ) → LoadsFit p loads → Fits p key nonce
+    → LoadsFit p (load loads key nonce)
+load-fits p loads key nonce f g =
     let l : Load = record { key = key; nonce = nonce } in
     record {
       at-most = omega (arith, length-take remembered (l ∷ loads));
       all-fit = take-fits p remembered (l ∷ loads) (g, f .all-fit);
     }
 
-pub last-fits : (p : Params) (loads : List Load) → Remembers p loads → isLoaded loads ≡ true
+pub last-fits : (p : Params) (loads : List Load) → LoadsFit p loads → isLoaded loads ≡ true
     → Fits p (lastKey loads) (lastNonce loads)
 last-fits p [] f l = absurd (let z : _≡_ {A = ℕ} 0 1 = cc in omega arith)
 last-fits p (x ∷ loads) f l = f .all-fit .0
@@ -374,7 +375,7 @@ pub pair-load : (loads : List Load) (key nonce : List ℕ) → remember (pairIn 
 unfolding remember
 pair-load loads key nonce = refl
 
-pub key-back : (p : Params) → Small p → (loads : List Load) → Remembers p loads → isLoaded loads ≡ true
+pub key-back : (p : Params) → Small p → (loads : List Load) → LoadsFit p loads → isLoaded loads ≡ true
     → currentKey p (pairIn loads) ≡ lastKey loads
 unfolding currentKey remember
 key-back p m [] f l = absurd (let z : _≡_ {A = ℕ} 0 1 = cc in omega arith)
@@ -385,7 +386,7 @@ cond-and true true = refl
 cond-and true false = refl
 cond-and false b = refl
 
-pub repeats-agree : (p : Params) → Small p → (loads : List Load) → Remembers p loads → (key nonce : List ℕ)
+pub repeats-agree : (p : Params) → Small p → (loads : List Load) → LoadsFit p loads → (key nonce : List ℕ)
     → repeats p (pairIn loads) key nonce ≡ among loads key nonce
 unfolding repeats noPair remember
 repeats-agree p m [] f key nonce = refl
