@@ -26,18 +26,19 @@ use Rattle.tc_sparkle_aead.specs.declared.engine.Mac.{Mac}
 use Rattle.tc_sparkle_aead.specs.declared.engine.SparkleEngine.{SparkleEngine}
 use Rattle.tc_aead_cipher.specs.Variant.{paramsOf}
 use Rattle.tc_aead_cipher.specs.Checks.{opens, opening, keep, heldData, then, within64, updateLen, totalLen, phaseCheck, room, dataCheck, whole, endCheck}
-use Rattle.tc_sparkle_aead.specs.Message.{stateIn, stream, blockCount, plainOf, written, plainBy, streamOut}
-use Rattle.tc_sparkle_aead.specs.Calls.{beginData, dataOut, sealLast, sealTag, openBlock, openLast}
+use Rattle.tc_sparkle_aead.specs.Message.{stateIn, stream, blockCount, plainOf, written, plainBy, streamOut, sealLast, sealTag, openBlock, openLast}
+use Rattle.tc_sparkle_aead.specs.Calls.{beginData, dataOut}
 use Rattle.tc_aead_cipher.proofs.VariantLaws.{sizes, small}
 use Rattle.claims.specs.Refused.{Active}
 use Rattle.claims.specs.Reader.{Reader, readerHeld, dataPhase, Load, lastKey, lastNonce}
 use Rattle.claims.specs.Messages.{released, Writes}
 use Rattle.claims.proofs.Points.{held-nil, blockPoint}
 use Rattle.claims.proofs.OpeningEnd.{packet-given}
-use Rattle.claims.proofs.Invariant.{PhaseInvariant, engineOf, dataPoint, pointIn, then-good, holds-data, state-data}
+use Rattle.claims.proofs.Invariant.{pairIn, PhaseInvariant, engineOf, dataPoint, pointIn, then-good, holds-data, state-data}
 use Rattle.claims.proofs.Invariant.{LoadsFit, isLoaded, last-fits, data-given, phase-agrees}
 use Rattle.claims.proofs.InvariantKept.{readerOf, inData, begin-data, sealing-state, sealing-block, sealing-tag}
 use Rattle.claims.proofs.InvariantKept.{opening-block, opening-last}
+use Rattle.tc_sparkle_aead.specs.Engine.{currentKey}
 
 -- ---- What passed checks say
 
@@ -244,7 +245,7 @@ module _ (v : SparkleVariant) where
       -- the end of a sealing
       pub seal-bytes : isLoaded loads ≡ true → seal p key nonce header body
           ≡ released p (readerIn (Data Encrypt) header body)
-          ++ (sealLast (dataEngine Encrypt header body) ++ sealTag (dataEngine Encrypt header body))
+          ++ (sealLast p (dataPoint p Encrypt key nonce header body) ++ sealTag p (currentKey p (pairIn loads)) (dataPoint p Encrypt key nonce header body))
       unfolding seal encrypt crypted released sealLast leading plainOf plainBy
       seal-bytes l =
           rw (
@@ -259,7 +260,7 @@ module _ (v : SparkleVariant) where
           (tag p key nonce header body))
 
       pub seal-length : isLoaded loads ≡ true
-          → length (sealLast (dataEngine Encrypt header body) ++ sealTag (dataEngine Encrypt header body))
+          → length (sealLast p (dataPoint p Encrypt key nonce header body) ++ sealTag p (currentKey p (pairIn loads)) (dataPoint p Encrypt key nonce header body))
           ≡ length (held (p .rate) 0 body) + p .key
       unfolding sealLast
       seal-length l =
@@ -286,7 +287,7 @@ module _ (v : SparkleVariant) where
       module _ (l : isLoaded loads ≡ true) (enough : p .key ≤ length body) where
         pub open-bytes : decrypt p key nonce header (bodyOf p body)
             ≡ released p (readerIn (Data Decrypt) header body)
-            ++ openLast (dataEngine Decrypt header body)
+            ++ openLast p (dataPoint p Decrypt key nonce header body)
         unfolding decrypt crypted released plainOf plainBy
         open-bytes =
             rw (
@@ -294,14 +295,14 @@ module _ (v : SparkleVariant) where
               packet-given p body enough (messageBlock p (openingBlock p)) (crypt p) (prepared p key nonce header),
             )
 
-        pub open-length : length (openBlock (dataEngine Decrypt header body))
+        pub open-length : length (openBlock p (dataPoint p Decrypt key nonce header body))
             ≡ length (held (p .rate) (p .key) body) - p .key
         unfolding openBlock
         open-length =
             let e = holds-data p (sizes v) (small v) Decrypt key nonce header body in
             simp length-take (omega (arith, ap length e))
 
-        pub last-length : length (openLast (dataEngine Decrypt header body))
+        pub last-length : length (openLast p (dataPoint p Decrypt key nonce header body))
             ≡ length (held (p .rate) (p .key) body) - p .key
         last-length =
             let first = prepared p key nonce header in

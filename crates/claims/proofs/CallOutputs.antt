@@ -6,7 +6,6 @@ use Prim.Native.Nat.{ℕ, _-_, _%_, _^_, _≤_}
 use native.Mathlib.Omega.{arith}
 use lib.ListN.{length, drop, length-replicate}
 use Rattle.schwaemm.specs.Schwaemm.{tag, steps, decrypt, seal, body as bodyOf, verified}
-use Rattle.schwaemm.specs.Bytes.{same}
 use Rattle.tc_aead_cipher.specs.declared.variant.SparkleVariant.{SparkleVariant}
 use Rattle.tc_aead_cipher.specs.declared.phase.Direction.{Direction}
 use Rattle.tc_aead_cipher.specs.declared.phase.Direction.the-variants.{Encrypt, Decrypt}
@@ -20,8 +19,8 @@ use Rattle.tc_sparkle_aead.specs.declared.engine.SparkleEngine.{SparkleEngine}
 use Rattle.tc_aead_cipher.specs.Variant.{paramsOf}
 use Rattle.tc_aead_cipher.specs.Refusals.{refusal}
 use Rattle.tc_aead_cipher.specs.Checks.{opens, opening, dataCheck, endCheck}
-use Rattle.tc_sparkle_aead.specs.Message.{zeros, noMac, written, readable}
-use Rattle.tc_sparkle_aead.specs.Calls.{beginData, dataBy, dataOutBy, dataAnswer, processBytes, processBytesOut, sealLast, sealTag, openBlock, openLast, receivedTag, openTag, sealFinal, openFinalBy, openFinal, openEndOut, finalBy, finalOutBy, finalAnswer, doFinal, doFinalOut, macOf, stepsNow}
+use Rattle.tc_sparkle_aead.specs.Message.{zeros, noMac, written, readable, openOutBy}
+use Rattle.tc_sparkle_aead.specs.Calls.{beginData, dataBy, dataOutBy, dataAnswer, processBytes, processBytesOut, sealFinal, openFinalBy, openFinal, finalBy, finalOutBy, finalAnswer, doFinal, doFinalOut, macOf, stepsNow}
 use Rattle.tc_aead_cipher.proofs.VariantLaws.{sizes}
 use Rattle.schwaemm.proofs.RoundTrip.{length-decrypt}
 use Rattle.tc_aead_cipher.specs.Call.{Call}
@@ -38,6 +37,7 @@ use Rattle.claims.proofs.InvariantKept.{seal-engine, open-engine, data-
 use Rattle.claims.proofs.Accepted.{data-good, end-good, data-passed-active, end-passed-active, EndPassed}
 use Rattle.claims.proofs.Accepted.{released-data, writes, message-writes, seal-bytes, seal-length, open-bytes}
 use Rattle.claims.proofs.Accepted.{open-length, last-length, is-open, end-count, active-opening}
+use Rattle.claims.proofs.EngineEnd.{sealBytes, ciphertext, openBytes, right}
 
 -- What an end past its checks answers and writes: a sealing's, and an opening's, by whether the packet is verified.
 pub record SealEnd (v : SparkleVariant) (r : Reader) (out : List ℕ) (n : ℕ) (result : StepResult) : Type 0 where
@@ -118,7 +118,7 @@ module _ (v : SparkleVariant) (loads : List Load) (initial header body : List �
       (record {
         engine = cond b (openFinal e n) (sealFinal e n) .engine;
         outcome = outcome (cond b (openFinal e n) (sealFinal e n) .answer);
-        buffer = written (cond b (openEndOut (same (receivedTag e) (openTag e)) e) (sealLast e ++ sealTag e)) out;
+        buffer = written (cond b (openOutBy (right e) (paramsOf (e .variant)) (e .current)) (sealBytes e)) out;
       })
   unfolding sealFinal
   sealed-end t st true no-open e is ok = absurd (let z : _≡_ {A = ℕ} 0 1 = cc in omega arith)
@@ -129,11 +129,11 @@ module _ (v : SparkleVariant) (loads : List Load) (initial header body : List �
         outcome-is = refl;
         bytes-are =
             writes (released p (readerOf loads initial phase header body)) (seal p key nonce header body) out
-            (sealLast e ++ sealTag e) n
+            (sealBytes e) n
             (seal-bytes v loads initial f header body mac c l
-            ∙ ap₂ (λ (x : List ℕ) (y : SparkleEngine). x ++ (sealLast y ++ sealTag y))
+            ∙ ap₂ (λ (x : List ℕ) (y : SparkleEngine). x ++ (sealBytes y))
             (sym (released-data v loads initial f header body mac c t)) (sym is))
-            (ap (λ (y : SparkleEngine). length (sealLast y ++ sealTag y)) is ∙ seal-length v loads initial f header body mac c l
+            (ap (λ (y : SparkleEngine). length (sealBytes y)) is ∙ seal-length v loads initial f header body mac c l
             ∙ sym (end-count v loads initial f header body mac c t st out n ok))
             (ok .fits);
       }
@@ -146,7 +146,7 @@ module _ (v : SparkleVariant) (loads : List Load) (initial header body : List �
       (record {
         engine = cond b (openFinal e n) (sealFinal e n) .engine;
         outcome = outcome (cond b (openFinal e n) (sealFinal e n) .answer);
-        buffer = written (cond b (openEndOut (same (receivedTag e) (openTag e)) e) (sealLast e ++ sealTag e)) out;
+        buffer = written (cond b (openOutBy (right e) (paramsOf (e .variant)) (e .current)) (sealBytes e)) out;
       })
   unfolding openFinal
   opened-end t st false is-opening e is enough ok = absurd (let z : _≡_ {A = ℕ} 0 1 = cc in omega arith)
@@ -155,35 +155,35 @@ module _ (v : SparkleVariant) (loads : List Load) (initial header body : List �
       let l = active-loaded v loads initial f t header body mac c st in
       subst (λ (g : Bool). OpenEnd v (readerOf loads initial phase header body) out n
       (verified p key nonce header body)
-      (record { engine = openFinalBy g e n .engine; outcome = outcome (openFinalBy g e n .answer); buffer = written (openEndOut g e) out }))
-      (sym (ap (λ (y : SparkleEngine). same (receivedTag y) (openTag y)) is ∙ opening-verified v loads initial f l header body enough))
+      (record { engine = openFinalBy g e n .engine; outcome = outcome (openFinalBy g e n .answer); buffer = written (openOutBy g (paramsOf (e .variant)) (e .current)) out }))
+      (sym (ap (λ (y : SparkleEngine). right y) is ∙ opening-verified v loads initial f l header body enough))
       (by l (verified p key nonce header body))
     where
       by : isLoaded loads ≡ true → (g : Bool) → OpenEnd v (readerOf loads initial phase header body) out n g
-          (record { engine = openFinalBy g e n .engine; outcome = outcome (openFinalBy g e n .answer); buffer = written (openEndOut g e) out })
+          (record { engine = openFinalBy g e n .engine; outcome = outcome (openFinalBy g e n .answer); buffer = written (openOutBy g (paramsOf (e .variant)) (e .current)) out })
       by l true =
           let p = paramsOf v in
           record {
             outcome-is = refl;
             good-bytes = λ _.
                 writes (released p (readerOf loads initial phase header body))
-                (decrypt p key nonce header (bodyOf p body)) out (openLast e) n
+                (decrypt p key nonce header (bodyOf p body)) out (openBytes e) n
                 (open-bytes v loads initial f header body mac c l enough
-                ∙ ap₂ (λ (x : List ℕ) (y : SparkleEngine). x ++ openLast y)
+                ∙ ap₂ (λ (x : List ℕ) (y : SparkleEngine). x ++ openBytes y)
                 (sym (released-data v loads initial f header body mac c t)) (sym is))
-                (ap (λ (y : SparkleEngine). length (openLast y)) is ∙ last-length v loads initial f header body mac c l enough
+                (ap (λ (y : SparkleEngine). length (openBytes y)) is ∙ last-length v loads initial f header body mac c l enough
                 ∙ sym (end-count v loads initial f header body mac c t st out n ok))
                 (ok .fits);
             bad-bytes = λ b. absurd (let z : _≡_ {A = ℕ} 0 1 = cc in omega arith);
           }
       by l false =
-          let m : length (openBlock e) ≡ n =
-          ap (λ (y : SparkleEngine). length (openBlock y)) is ∙ open-length v loads initial f header body mac c l enough
+          let m : length (ciphertext e) ≡ n =
+          ap (λ (y : SparkleEngine). length (ciphertext y)) is ∙ open-length v loads initial f header body mac c l enough
           ∙ sym (end-count v loads initial f header body mac c t st out n ok) in
           record {
             outcome-is = refl;
             good-bytes = λ b. absurd (let z : _≡_ {A = ℕ} 0 1 = cc in omega arith);
-            bad-bytes = λ _. wiped (length (openBlock e)) n out m;
+            bad-bytes = λ _. wiped (length (ciphertext e)) n out m;
           }
 
 -- the results of a step

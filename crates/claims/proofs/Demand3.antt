@@ -8,7 +8,6 @@ use mathlib.Core.List.{List, [], _∷_, map}
 use Prim.Native.Nat.{ℕ, zero, suc}
 use native.Mathlib.Omega.{arith}
 use lib.ListN.{length, take}
-use Rattle.schwaemm.specs.Bytes.{same}
 use Rattle.schwaemm.specs.Schwaemm.{Params, verified}
 use Rattle.tc_aead_cipher.specs.declared.variant.SparkleVariant.{SparkleVariant}
 use Rattle.tc_aead_cipher.specs.declared.phase.Direction.{Direction}
@@ -23,7 +22,7 @@ use Rattle.tc_sparkle_aead.specs.declared.engine.SparkleEngine.{SparkleEngine}
 use Rattle.tc_aead_cipher.specs.Variant.{paramsOf}
 use Rattle.tc_aead_cipher.specs.Checks.{opening, heldData, whole, totalLen, endCheck, startCheck}
 use Rattle.tc_sparkle_aead.specs.Engine.{newEngine, repeats}
-use Rattle.tc_sparkle_aead.specs.Calls.{beginData, receivedTag, openTag}
+use Rattle.tc_sparkle_aead.specs.Calls.{beginData}
 use Rattle.tc_aead_cipher.specs.Call.{Call}
 use Rattle.claims.specs.Shape.{Shape, shape, Alike}
 use Rattle.tc_sparkle_aead.specs.Sheet.{step, Line, line, lines, sheet}
@@ -31,6 +30,7 @@ use Rattle.claims.specs.Reader.{Verdict, verdictOf, Reader, newReader, r
 use Rattle.claims.specs.Reader.{loadedKey, loadedNonce, readMessage, readEnd, endIn, read, notes, verdicts}
 use Rattle.claims.specs.Reader.Verdict.{None}
 use Rattle.claims.proofs.PublicState.{publicOf, asked, startNote, endNote, next-is, judged-is, line-is}
+use Rattle.claims.proofs.EngineEnd.{right}
 
 -- ---- Two engines of equal public state
 
@@ -95,7 +95,7 @@ pub record Linked (v : SparkleVariant) (e : SparkleEngine) (r : Reader) : Type 0
   pub pair : (key nonce : List ℕ) → repeats (paramsOf v) (e .pair) key nonce ≡ repeated r key nonce
   pub tag : (available n : ℕ) → endCheck (paramsOf v) (r .phase) (readerHeld (paramsOf v) r) available ≡ Ok n
       → opening (r .phase) ≡ true
-      → same (receivedTag (beginData e)) (openTag (beginData e))
+      → right (beginData e)
       ≡ verified (paramsOf v) (loadedKey r) (loadedNonce r) (r .header) (r .body)
 
 -- a start notes by its check
@@ -162,7 +162,7 @@ module _ (v : SparkleVariant) (e : SparkleEngine) (r : Reader) (l : Linked v e r
   asked-is-read (Call.Data input out) = rw readMessage-note
   asked-is-read (Call.Final out) =
       end-asked v (e .variant) r (e .current .phase) (e .current .held) (length out)
-      (same (receivedTag (beginData e)) (openTag (beginData e))) (l .variant) (l .phase) (l .held) (l .tag (length out))
+      (right (beginData e)) (l .variant) (l .phase) (l .held) (l .tag (length out))
   asked-is-read Call.Reset = refl
   asked-is-read Call.Mac = refl
   asked-is-read (Call.Update n) = refl

@@ -3,10 +3,9 @@ use mathlib.Core.Path.{_≡_, refl, sym, ap, subst, _∙_}
 use mathlib.Core.Logic.{_↔_}
 use mathlib.Core.Bool.{true}
 use mathlib.Core.List.{List, _∷_}
-use Prim.Native.Nat.{ℕ, _-_, _≤_}
+use Prim.Native.Nat.{ℕ, _≤_}
 use native.Mathlib.Omega.{arith}
 use lib.ListN.{length, take}
-use Rattle.schwaemm.specs.Bytes.{same}
 use Rattle.schwaemm.specs.Blocks.{held}
 use Rattle.schwaemm.specs.Schwaemm.{Params, verified}
 use Rattle.tc_aead_cipher.specs.declared.variant.SparkleVariant.{SparkleVariant}
@@ -19,7 +18,7 @@ use Rattle.tc_sparkle_aead.specs.declared.engine.SparkleEngine.{SparkleEngine}
 use Rattle.tc_aead_cipher.specs.Variant.{paramsOf}
 use Rattle.tc_aead_cipher.specs.Checks.{opening, keep, heldData, endCheck}
 use Rattle.tc_sparkle_aead.specs.Message.{zeros, noMessage, finalPoint}
-use Rattle.tc_sparkle_aead.specs.Calls.{beginData, receivedTag, openTag}
+use Rattle.tc_sparkle_aead.specs.Calls.{beginData}
 use Rattle.tc_aead_cipher.proofs.VariantLaws.{sizes, small}
 use Rattle.tc_aead_cipher.specs.Call.{Call}
 use Rattle.claims.specs.Shape.{Alike}
@@ -40,6 +39,7 @@ use Rattle.claims.proofs.PublicState.{length-inArray}
 use Rattle.claims.proofs.Demand1.{six-leaves}
 use Rattle.claims.proofs.Demand3.{Linked, sheets-and-verdicts, first-sheets-and-verdicts}
 use Rattle.claims.proofs.MachineDemand3.{engine-answers, engine-meets-3}
+use Rattle.claims.proofs.EngineEnd.{right}
 
 -- the held bytes count in Data, where point and reader agree
 held-linked : (p : Params) (key nonce header body : List ℕ) (phase : Phase)
@@ -62,18 +62,16 @@ module _ (v : SparkleVariant) (loads : List Load) (initial header body : List �
   -- an opening in a phase that takes an end, with a tag's bytes
   tag-active : {phase : Phase} → Active Decrypt phase → PhaseInvariant (paramsOf v) phase loads initial header body mac n
       → paramsOf v .key ≤ length body
-      → same (receivedTag (beginData (engineOf v (readerOf loads initial phase header body) mac n)))
-      (openTag (beginData (engineOf v (readerOf loads initial phase header body) mac n)))
+      → right (beginData (engineOf v (readerOf loads initial phase header body) mac n))
       ≡ verified (paramsOf v) key nonce header body
   tag-active {phase} t st enough =
-      ap (λ (e : SparkleEngine). same (receivedTag e) (openTag e)) (begin-data v loads initial f t header body mac n st)
+      ap (λ (e : SparkleEngine). right e) (begin-data v loads initial f t header body mac n st)
       ∙ opening-verified v loads initial f (active-loaded v loads initial f t header body mac n st) header body enough
 
   tag-linked : (phase : Phase) → PhaseInvariant (paramsOf v) phase loads initial header body mac n → (available k : ℕ)
       → endCheck (paramsOf v) phase (readerHeld (paramsOf v) (readerOf loads initial phase header body)) available ≡ Ok k
       → opening phase ≡ true
-      → same (receivedTag (beginData (engineOf v (readerOf loads initial phase header body) mac n)))
-      (openTag (beginData (engineOf v (readerOf loads initial phase header body) mac n)))
+      → right (beginData (engineOf v (readerOf loads initial phase header body) mac n))
       ≡ verified (paramsOf v) key nonce header body
   unfolding endCheck
   tag-linked Uninitialized st available k passed opens = absurd (let z : _≡_ {A = ℕ} 0 1 = cc in omega arith)

@@ -26,9 +26,9 @@ use Rattle.tc_sparkle_aead.specs.declared.engine.Mac.{Mac}
 use Rattle.tc_sparkle_aead.specs.declared.engine.SparkleEngine.{SparkleEngine}
 use Rattle.tc_aead_cipher.specs.Variant.{paramsOf}
 use Rattle.tc_aead_cipher.specs.Checks.{aadCheck, headerCheck, dataCheck, endCheck, startCheck, updateLen, totalLen}
-use Rattle.tc_sparkle_aead.specs.Message.{noMessage, noMac, stateIn, buffered, absorbHeader, headerSteps, plainOf, lastSteps, finalPoint, readable, afterHeader, plainBy, withoutHeader}
+use Rattle.tc_sparkle_aead.specs.Message.{noMessage, noMac, stateIn, buffered, absorbHeader, headerSteps, plainOf, lastSteps, finalPoint, readable, afterHeader, plainBy, withoutHeader, sealTag, openBlock, receivedTag, openLast, openTag}
 use Rattle.tc_sparkle_aead.specs.Engine.{currentKey, noSteps, initSteps, refusedSteps, resetSteps, newEngine, updateOutputLen, outputLen}
-use Rattle.tc_sparkle_aead.specs.Calls.{addSteps, atPoint, refused, started, initBy, init, aadBy, processAadBytes, beginData, dataIn, dataBy, processBytes, sealTag, openBlock, receivedTag, openLast, openTag, finalEngine, sealFinal, openFinalBy, openFinal, finalBy, doFinal, dataAnswer, finalAnswer}
+use Rattle.tc_sparkle_aead.specs.Calls.{addSteps, atPoint, refused, started, initBy, init, aadBy, processAadBytes, beginData, dataIn, dataBy, processBytes, finalEngine, sealFinal, openFinalBy, openFinal, finalBy, doFinal, dataAnswer, finalAnswer}
 use Rattle.tc_sparkle_aead.specs.Calls.{reset as resetEngine}
 use Rattle.tc_aead_cipher.proofs.VariantLaws.{sizes, small}
 use Rattle.tc_aead_cipher.proofs.CheckLaws.{startCheck-lengths}
@@ -308,7 +308,7 @@ module _ (v : SparkleVariant) where
         unfolding lastBlock leading held
         sealing-block = holds-data p (sizes v) (small v) Encrypt key nonce header body
 
-        pub sealing-tag : sealTag (dataEngine Encrypt header body) ≡ tag p key nonce header body
+        pub sealing-tag : sealTag p (currentKey p (pairIn loads)) (dataPoint p Encrypt key nonce header body) ≡ tag p key nonce header body
         unfolding sealTag tag sealing
         sealing-tag =
             rw (current-key, sealing-state, sealing-block)
@@ -347,22 +347,22 @@ module _ (v : SparkleVariant) where
               ≡ held (p .rate) (p .key) body
           opening-holds = holds-data p (sizes v) (small v) Decrypt key nonce header body
 
-          pub opening-block : openBlock (dataEngine Decrypt header body) ≡ lastBlock p (bodyOf p body)
+          pub opening-block : openBlock p (dataPoint p Decrypt key nonce header body) ≡ lastBlock p (bodyOf p body)
           unfolding openBlock
           opening-block = rw opening-holds (held-block p body enough)
 
-          pub opening-received : receivedTag (dataEngine Decrypt header body) ≡ received p body
+          pub opening-received : receivedTag p (dataPoint p Decrypt key nonce header body) ≡ received p body
           unfolding receivedTag
           opening-received = rw opening-holds (held-received p body enough)
 
-          pub opening-last : openLast (dataEngine Decrypt header body)
+          pub opening-last : openLast p (dataPoint p Decrypt key nonce header body)
               ≡ crypt p
               (beforeLast p (openingBlock p) (prepared p key nonce header) (bodyOf p body))
               (lastBlock p (bodyOf p body))
           unfolding openLast
           opening-last = rw (opening-block, opening-state)
 
-          pub opening-tag : openTag (dataEngine Decrypt header body)
+          pub opening-tag : openTag p (currentKey p (pairIn loads)) (dataPoint p Decrypt key nonce header body)
               ≡ tag p key nonce header (decrypt p key nonce header (bodyOf p body))
           unfolding openTag openingBlock
           opening-tag =
@@ -371,14 +371,14 @@ module _ (v : SparkleVariant) where
               (last-state p (openingBlock p) (prepared p key nonce header) (bodyOf p body))
               ∙ sym (tag-of-opened p (sizes v) key nonce header (bodyOf p body)))
 
-          pub opening-verified : same (receivedTag (dataEngine Decrypt header body))
-              (openTag (dataEngine Decrypt header body))
+          pub opening-verified : same (receivedTag p (dataPoint p Decrypt key nonce header body))
+              (openTag p (currentKey p (pairIn loads)) (dataPoint p Decrypt key nonce header body))
               ≡ verified p key nonce header body
           unfolding verified
           opening-verified = ap₂ same opening-received opening-tag
 
           opening-count :
-              (dataCount p Decrypt header body + lastSteps p (openBlock (dataEngine Decrypt header body))) % 2 ^ 64
+              (dataCount p Decrypt header body + lastSteps p (openBlock p (dataPoint p Decrypt key nonce header body))) % 2 ^ 64
               ≡ steps p (length header) (length body - p .key) % 2 ^ 64
           unfolding dataCount steps
           opening-count =
@@ -401,7 +401,7 @@ module _ (v : SparkleVariant) where
                   (steps p (length header) (length body - p .key) % 2 ^ 64)
               by true =
                   ap (λ (t : List ℕ). finalEngine (dataEngine Decrypt header body) Decrypt (readable t)
-                  (lastSteps p (openBlock (dataEngine Decrypt header body)))) opening-tag
+                  (lastSteps p (openBlock p (dataPoint p Decrypt key nonce header body)))) opening-tag
                   ∙ end-engine Decrypt header body _ _ _ opening-count
               by false = end-engine Decrypt header body _ _ _ opening-count
 

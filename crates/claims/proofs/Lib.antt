@@ -1,4 +1,5 @@
 -- The proofs of the claims.
+-- EngineEnd: what an end makes of an engine.
 -- Points: a point of a message as a function of the data so far.
 -- OpeningEnd: what an opening holds at its end.
 -- Invariant: what the engine is after a list of calls, from what the reader keeps.
@@ -21,6 +22,7 @@
 -- EngineDemand2: the engine as a machine meets demand 2.
 -- WorkedSheet: the sheet that document 01 works by hand.
 -- Claims: every final statement in full; begin there.
+pub mod EngineEnd
 pub mod Points
 pub mod OpeningEnd
 pub mod Invariant

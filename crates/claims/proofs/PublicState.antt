@@ -8,7 +8,6 @@ use Prim.Native.Nat.{ℕ, zero, suc, _+_, _-_, _*_, _%_, _^_, min}
 use native.Mathlib.Omega.{arith}
 use lib.ListN.{length, length-take, length-drop, length-append, length-replicate}
 use lib.Dec.{eqb, ltb}
-use Rattle.schwaemm.specs.Bytes.{same}
 use Rattle.schwaemm.specs.Blocks.{ready, held}
 use Rattle.schwaemm.specs.Schwaemm.{Params}
 use Rattle.tc_aead_cipher.specs.declared.variant.SparkleVariant.{SparkleVariant}
@@ -27,10 +26,10 @@ use Rattle.tc_sparkle_aead.specs.declared.engine.Steps.{Steps}
 use Rattle.tc_sparkle_aead.specs.declared.engine.SparkleEngine.{SparkleEngine}
 use Rattle.tc_aead_cipher.specs.Variant.{paramsOf}
 use Rattle.tc_aead_cipher.specs.Checks.{opening, keep, updateLen, totalLen, aadCheck, dataCheck, endCheck, startCheck}
-use Rattle.tc_sparkle_aead.specs.Message.{zeros, inArray, noMessage, noMac, bufferedCount, buffered, stream, blockCount, streamed, startPoint, absorbHeader, headerSteps, lastSteps, finalPoint, afterHeader, withoutHeader, readable, resetPoint}
+use Rattle.tc_sparkle_aead.specs.Message.{zeros, inArray, noMessage, noMac, bufferedCount, buffered, stream, blockCount, streamed, startPoint, absorbHeader, headerSteps, lastSteps, finalPoint, afterHeader, withoutHeader, readable, resetPoint, openBlock}
 use Rattle.tc_sparkle_aead.specs.Engine.{initSteps, refusedSteps, resetSteps, repeats, updateOutputLen, outputLen}
-use Rattle.tc_sparkle_aead.specs.Calls.{addSteps, atPoint, aadIn, beginBy, beginData, dataIn, openBlock, finalEngine}
-use Rattle.tc_sparkle_aead.specs.Calls.{refused, started, init, initBy, aadBy, processAadBytes, dataBy, dataAnswer, finalAnswer, processBytes, receivedTag, openTag, sealFinal, openFinalBy, openFinal, finalBy, doFinal, macOf, stepsNow}
+use Rattle.tc_sparkle_aead.specs.Calls.{addSteps, atPoint, aadIn, beginBy, beginData, dataIn, finalEngine}
+use Rattle.tc_sparkle_aead.specs.Calls.{refused, started, init, initBy, aadBy, processAadBytes, dataBy, dataAnswer, finalAnswer, processBytes, sealFinal, openFinalBy, openFinal, finalBy, doFinal, macOf, stepsNow}
 use Rattle.tc_sparkle_aead.specs.Calls.{reset as resetEngine}
 use Rattle.tc_aead_cipher.proofs.CheckLaws.{StartCase, startCheck-case}
 use Rattle.tc_aead_cipher.proofs.CheckLaws.StartCase.{refused-before, opens-always, seals-by-pair}
@@ -42,6 +41,7 @@ use Rattle.tc_aead_cipher.specs.Outcome.Outcome.{ok, no}
 use Rattle.claims.specs.Reader.{Verdict, verdictOf, startVerdict, refusedVerdict}
 use Rattle.claims.specs.Reader.Verdict.{Yes, No, None}
 use Rattle.claims.specs.Messages.{openOutcome, endOutcome}
+use Rattle.claims.proofs.EngineEnd.{ciphertext, right}
 
 -- ---- The public state
 
@@ -91,7 +91,7 @@ asked e (Call.Aad input) = None
 asked e (Call.Data input out) = None
 asked e (Call.Final out) =
     endNote (endCheck (paramsOf (e .variant)) (e .current .phase) (e .current .held) (length out))
-    (opening (e .current .phase)) (same (receivedTag (beginData e)) (openTag (beginData e)))
+    (opening (e .current .phase)) (right (beginData e))
 asked e Call.Reset = None
 asked e Call.Mac = None
 asked e (Call.Update n) = None
@@ -470,15 +470,11 @@ data-shows (Err x) e input = refl
 data-shows (Ok n) e input = refl
 
 length-openBlock : (e : SparkleEngine)
-    → length (openBlock e)
+    → length (ciphertext e)
     ≡ min (publicHeld (paramsOf (e .variant)) (outside (e .current)) - paramsOf (e .variant) .key)
     (publicHeld (paramsOf (e .variant)) (outside (e .current)))
 unfolding openBlock
 length-openBlock e = rw (length-take, length-buffered)
-
--- whether an engine's received tag is the one that it computes
-abbrev right : SparkleEngine → Bool
-right e = same (receivedTag e) (openTag e)
 
 openFinal-public : (b : Bool) (e : SparkleEngine) (n : ℕ)
     → publicOf (openFinalBy b e n .engine) ≡ endIn true (publicOf e) b

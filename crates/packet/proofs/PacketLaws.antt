@@ -8,7 +8,6 @@ use borrow.Author.Tests.{ltb-false}
 use lib.Dec.{ltb}
 use lib.ListN.{length, take, drop, length-drop, drop-of-length-le}
 use lib.Seq.{take-all}
-use Rattle.schwaemm.specs.Bytes.{same}
 use Rattle.schwaemm.specs.Schwaemm.{Params}
 use Rattle.tc_aead_cipher.specs.declared.variant.SparkleVariant.{SparkleVariant}
 use Rattle.tc_aead_cipher.specs.declared.phase.Direction.{Direction}
@@ -25,7 +24,7 @@ use Rattle.tc_sparkle_aead.specs.Engine.{newEngine}
 use Rattle.tc_aead_cipher.specs.Variant.{paramsOf}
 use Rattle.tc_aead_cipher.specs.Checks.{opening, then, room, whole, phaseCheck, updateLen, totalLen, dataCheck, endCheck}
 use Rattle.tc_aead_cipher.specs.Checks.{heldData}
-use Rattle.tc_sparkle_aead.specs.Calls.{beginData, receivedTag, openTag, sealFinal, openFinalBy, openFinal, dataBy, dataAnswer, finalBy, finalAnswer, init, processBytes, processBytesOut, doFinal, doFinalOut}
+use Rattle.tc_sparkle_aead.specs.Calls.{beginData, sealFinal, openFinalBy, openFinal, dataBy, dataAnswer, finalBy, finalAnswer, init, processBytes, processBytesOut, doFinal, doFinalOut}
 use Rattle.tc_aead_cipher.specs.Outcome.{Outcome, outcome, startOutcome}
 use Rattle.tc_sparkle_aead.specs.Sheet.{step}
 use Rattle.host.specs.Variant.{variantOf, isVariant}
@@ -118,7 +117,7 @@ end-count e out n q =
     by : (k : AeadResult) → finalBy k e .answer ≡ Ok n → k ≡ Ok n
     by (Err x) w = w
     by (Ok m) w =
-        ap Ok (ended-count (opening (e .current .phase)) (same (receivedTag (beginData e)) (openTag (beginData e))) (beginData e) m n w)
+        ap Ok (ended-count (opening (e .current .phase)) (right (beginData e)) (beginData e) m n w)
 
 -- ---- the end
 
