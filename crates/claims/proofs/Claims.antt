@@ -37,7 +37,8 @@ use Rattle.claims.specs.Messages.{UnderWay, shownTags}
 use Rattle.claims.specs.Refused.{Refused, OfStart, Unchanging, Numbered, Returned, Wiped, Unchanged, Failed, lent}
 use Rattle.claims.specs.Machine.{Machine, engine, after, counts, Demand2, Demand3}
 use Rattle.claims.specs.Rejected.{notInitialized, fixed, untouched, skipping, inventing, finalizing}
-use Rattle.claims.specs.Worked.{worked, row}
+use Rattle.tc_sparkle_aead.specs.Worked.{worked, row}
+use Rattle.tc_sparkle_aead.proofs.WorkedSheet.{worked-sheet}
 use Rattle.claims.proofs.Demand1.{returned, refusal-numbers, refusals, start-wipes, start-number-leaves, six-leaves}
 use Rattle.claims.proofs.Demand1.{unchanging-number-leaves}
 use Rattle.claims.proofs.EngineDemand3.{run-six-leaves, demand-3, demand-3-call-by-call, engine-demand-3}
@@ -55,7 +56,7 @@ use Rattle.claims.proofs.Rejected.{notInitialized-fails-2, notInitializ
 use Rattle.claims.proofs.Rejected.{untouched-fails-2, untouched-engine-fails-2, skipping-fails-2}
 use Rattle.claims.proofs.Rejected.{skipping-engine-fails-2, inventing-fails-2, constant-steps-fail-2}
 use Rattle.claims.proofs.Rejected.{finalizing-fails-2, finalized-outside-fails-2}
-use Rattle.claims.proofs.WorkedSheet.{worked-sheet, worked-verdicts}
+use Rattle.claims.proofs.WorkedVerdicts.{worked-verdicts}
 
 -- ---- Demand 1
 --

@@ -20,7 +20,7 @@
 -- Shown: whether a tag can be read, on every line.
 -- EngineCounts: the steps of every line.
 -- EngineDemand2: the engine as a machine meets demand 2.
--- WorkedSheet: the sheet that document 01 works by hand.
+-- WorkedVerdicts: the verdicts of the list that document 01 works by hand.
 -- Claims: every final statement in full; begin there.
 pub mod EngineEnd
 pub mod Points
@@ -43,5 +43,5 @@ pub mod EngineDemand3
 pub mod Shown
 pub mod EngineCounts
 pub mod EngineDemand2
-pub mod WorkedSheet
+pub mod WorkedVerdicts
 pub mod Claims

@@ -5,4 +5,3 @@ pub mod Messages
 pub mod Refused
 pub mod Machine
 pub mod Rejected
-pub mod Worked
