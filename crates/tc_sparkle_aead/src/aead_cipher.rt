@@ -79,8 +79,8 @@ pub fn process_bytes(mut e: SparkleEngine, input: &[u8], output: &mut [u8]) -> D
     let AeadResult::Ok(_) = answer else {
         return Done { answer, engine: e };
     };
-    let begun = message::begin_data(variant, at);
-    let done = message::data_in(variant, begun, input, output);
+    let start = message::begin_data(variant, at);
+    let done = message::data_in(variant, start, input, output);
     let s = e.steps;
     let steps = engine::add_steps(s, message::begin_steps(variant, phase));
     e.steps = steps;
@@ -102,14 +102,14 @@ pub fn do_final(e: SparkleEngine, output: &mut [u8]) -> Done
     let AeadResult::Ok(_) = answer else {
         return Done { answer, engine: e };
     };
-    let begun = message::begin_data(variant, at);
+    let start = message::begin_data(variant, at);
     let pair = e.pair;
     let first = message::begin_steps(variant, phase);
     if checks::opening(phase) {
-        let end = message::open_end(variant, begun, pair, output);
+        let end = message::open_end(variant, start, pair, output);
         return engine::finish(e, answer, Direction::Decrypt, first, end);
     }
-    let end = message::seal_end(variant, begun, pair, output);
+    let end = message::seal_end(variant, start, pair, output);
     engine::finish(e, answer, Direction::Encrypt, first, end)
 }
 

@@ -233,8 +233,8 @@ pub(crate) fn finish(
     let point = message::final_point(d);
     let mac = end.mac;
     let s = e.steps;
-    let beginPoint = add_steps(s, first);
-    let steps = add_steps(beginPoint, end.steps);
+    let begins = add_steps(s, first);
+    let steps = add_steps(begins, end.steps);
     e.current = point;
     e.mac = mac;
     e.steps = steps;
