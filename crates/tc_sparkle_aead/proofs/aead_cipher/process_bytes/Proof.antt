@@ -36,15 +36,15 @@ returns-2 c =
     let stepped = c .before in
     let first = stepped .before in
     let done = first .before .before .before .before in
-    let beginPoint = done .before .before in
-    let told = beginPoint .before in
+    let begun = done .before .before in
+    let told = begun .before in
     let check = told .before .before in
     let s = check .before .before .before .before .args in (
       data-taken (s .e) (s .input .now) (s .output .now) _ (check .data-check .ensures) _ (told .enum-told .given .1) _
-          (beginPoint .begin-data .ensures) _ (first .begin-steps .ensures) (s .e .current) _ (done .data-in .ensures .0) _
+          (begun .begin-data .ensures) _ (first .begin-steps .ensures) (s .e .current) _ (done .data-in .ensures .0) _
           (rw (stepped .add-steps .ensures) at (c .at-point .ensures)),
       data-taken-out (s .e) (s .input .now) (s .output .now) _ (check .data-check .ensures) _ (told .enum-told .given .1) _
-          (beginPoint .begin-data .ensures) _ (done .data-in .ensures .1),
+          (begun .begin-data .ensures) _ (done .data-in .ensures .1),
     )
 
 pub process-bytes-spec : {M : Type 1} → statement M
