@@ -29,13 +29,13 @@ use Rattle.tc_sparkle_aead.specs.Sheet.{step, Line, sheet, runFrom, run}
 use Rattle.tc_aead_cipher.specs.Outcome.Outcome.{ok, no}
 use Rattle.claims.specs.Reader.{newReader, readerHeld, repeated, read, reader, verdicts, loadedKey, loadedNonce}
 use Rattle.claims.specs.Reader.Verdict.{Yes, No, None}
+use Rattle.claims.specs.Steps.{counts, stepsBefore, stepsAfterInit}
 use Rattle.claims.specs.Messages.{Each, outputs, headerBytes, dataBytes, HeaderCall, DataCall, messageCalls, Rooms}
 use Rattle.claims.specs.Messages.{Ample, Completes, Rejects, RoundTrip, AllBetween, acceptedHeader, acceptedData}
 use Rattle.claims.specs.Messages.{startedEngine, OpenedUnrefused, Asked, answerOf, released, Writes, finishedBytes}
-use Rattle.claims.specs.Messages.{messageOf, OpenEndExact, EndsWith, Before, stepsBefore, stepsAfterInit, Keeps, handed}
-use Rattle.claims.specs.Messages.{UnderWay, shownTags}
+use Rattle.claims.specs.Messages.{messageOf, OpenEndExact, EndsWith, Before, Keeps, handed, UnderWay, shownTags}
 use Rattle.claims.specs.Refused.{Refused, OfStart, Unchanging, Numbered, Returned, Wiped, Unchanged, Failed, lent}
-use Rattle.claims.specs.Machine.{Machine, engine, after, counts, Demand2, Demand3}
+use Rattle.claims.specs.Machine.{Machine, engine, after, Demand2, Demand3}
 use Rattle.claims.specs.Rejected.{notInitialized, fixed, untouched, skipping, inventing, finalizing}
 use Rattle.tc_sparkle_aead.specs.Worked.{worked, row}
 use Rattle.tc_sparkle_aead.proofs.WorkedSheet.{worked-sheet}

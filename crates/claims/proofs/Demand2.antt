@@ -32,8 +32,9 @@ use Rattle.tc_aead_cipher.specs.Call.{Call}
 use Rattle.tc_sparkle_aead.specs.Sheet.{step, runFrom, run}
 use Rattle.tc_aead_cipher.specs.Outcome.{Outcome, startOutcome}
 use Rattle.claims.specs.Reader.{readerHeld, read, reader, Load, loadedKey, loadedNonce, lastKey, lastNonce}
+use Rattle.claims.specs.Steps.{stepsBefore, stepsAfterInit}
 use Rattle.claims.specs.Messages.{released, Writes, Each, endOutcome, answerOf, messageOf, EndsWith, finishedBytes}
-use Rattle.claims.specs.Messages.{OpenEndExact, Before, stepsBefore, stepsAfterInit, Keeps}
+use Rattle.claims.specs.Messages.{OpenEndExact, Before, Keeps}
 use Rattle.claims.proofs.Points.{blockPoint}
 use Rattle.claims.proofs.Invariant.{PhaseInvariant, SealingFinal, openedMac, headCount, dataCount, headPoint}
 use Rattle.claims.proofs.Invariant.{dataPoint, pointIn, initialCount, phase-agrees}
@@ -219,7 +220,7 @@ phase-is v calls =
 
 -- ---- The steps
 
-steps-in : (p : Params) (phase : Phase) (loads : List Load) (initial header body : List ℕ) (mac : Mac) (c : ℕ)
+pub steps-in : (p : Params) (phase : Phase) (loads : List Load) (initial header body : List ℕ) (mac : Mac) (c : ℕ)
     → Before phase
     → PhaseInvariant p phase loads initial header body mac c → c ≡ stepsBefore p phase header body % 2 ^ 64
 unfolding stepsBefore headCount dataCount

@@ -30,11 +30,12 @@ use Rattle.tc_aead_cipher.specs.Call.{Call}
 use Rattle.tc_sparkle_aead.specs.Sheet.{step, Line, line, sheet}
 use Rattle.claims.specs.Reader.{Reader, newReader, readerHeld, repeated, readStart, aadPhase, readHeader, dataPhase}
 use Rattle.claims.specs.Reader.{Load, lastKey, lastNonce, readMessage, endIn, readEnd, resetIn, read}
-use Rattle.claims.specs.Machine.{engine, linesOf, sheetOf, startSteps, messageLength, endSteps, finalSteps, stepsIn}
-use Rattle.claims.specs.Machine.{counts}
+use Rattle.claims.specs.Steps.{stepsAfterInit, messageLength, endSteps, finalSteps, stepsIn, counts}
+use Rattle.claims.specs.Machine.{engine, linesOf, sheetOf}
 use Rattle.claims.proofs.Invariant.{Invariant, PhaseInvariant, SealingFinal, was-reset, has-ended, headCount}
-use Rattle.claims.proofs.Invariant.{dataCount, initialCount, invariant-new}
+use Rattle.claims.proofs.Invariant.{initialCount, invariant-new}
 use Rattle.claims.proofs.InvariantKept.{invariant-step}
+use Rattle.claims.proofs.Demand2.{steps-in}
 use Rattle.claims.proofs.PublicState.{Public, publicOf, asked, next-is, headerNext, headerIn, dataNext, endNext, yes}
 use Rattle.claims.proofs.Demand3.{endCheck-held}
 use Rattle.claims.proofs.MachineDemand3.{engine-lines}
@@ -63,12 +64,14 @@ phase-count : (p : Params) (phase old : Phase) (loads : List Load) (initial head
     → ((d : Direction) → phase ≡ Final d
     → n ≡ finalSteps c old p before d (record { phase = phase; loads = loads; initial = initial; header = header; body = body }))
     → n ≡ stepsIn phase old p before c (record { phase = phase; loads = loads; initial = initial; header = header; body = body })
-unfolding headCount dataCount
-phase-count p Uninitialized old loads initial header body mac n before c st h = st .1
+phase-count p Uninitialized old loads initial header body mac n before c st h =
+    steps-in p Uninitialized loads initial header body mac n tt st
 phase-count p (Init d) old loads initial header body mac n before c st h =
-    st .2 ∙ ap (λ (l : List ℕ). startSteps p (length l)) (st .3)
-phase-count p (Aad d) old loads initial header body mac n before c st h = st .2
-phase-count p (Data d) old loads initial header body mac n before c st h = st .2
+    steps-in p (Init d) loads initial header body mac n tt st
+phase-count p (Aad d) old loads initial header body mac n before c st h =
+    steps-in p (Aad d) loads initial header body mac n tt st
+phase-count p (Data d) old loads initial header body mac n before c st h =
+    steps-in p (Data d) loads initial header body mac n tt st
 phase-count p (Final d) old loads initial header body mac n before c st h = h d refl
 
 -- ---- Which calls lead to Final
@@ -148,8 +151,8 @@ taken-steps (Final f) p r d n before held available k c q = absurd (let z : _≡
 
 -- A reset that leads to Final, or stays there, is a sealing's.
 reset-count : (p : Params) (r : Reader) (phase : Phase) (d : Direction) → r .phase ≡ phase → resetIn phase r .phase ≡ Final d
-    → initialCount p phase (r .initial) ≡ startSteps p (length (resetIn phase r .initial))
-unfolding headCount
+    → initialCount p phase (r .initial) ≡ stepsAfterInit p (Final d) (resetIn phase r .initial) % 2 ^ 64
+unfolding headCount stepsAfterInit
 reset-count p r Uninitialized d h q = absurd (let z : _≡_ {A = ℕ} 0 1 = cc in omega arith)
 reset-count p r (Init f) d h q = refl
 reset-count p r (Aad f) d h q = refl

@@ -33,9 +33,10 @@ use Rattle.tc_aead_cipher.specs.Outcome.Outcome.{ok, no}
 use Rattle.claims.specs.Reader.{Reader, newReader, readerHeld, repeated, read, notes, verdicts, reader, readFrom}
 use Rattle.claims.specs.Reader.{loadedKey, loadedNonce}
 use Rattle.claims.specs.Reader.Verdict.{Yes, No}
+use Rattle.claims.specs.Steps.{stepsBefore, counts}
 use Rattle.claims.specs.Messages.{endOutcome, answerOf}
 use Rattle.claims.specs.Refused.{lent}
-use Rattle.claims.specs.Machine.{Machine, after, sheetOf, bytesOf, counts, Demand2, Demand3}
+use Rattle.claims.specs.Machine.{Machine, after, sheetOf, bytesOf, Demand2, Demand3}
 use Rattle.claims.specs.Machine.AllOk.{none, more}
 use Rattle.claims.specs.Rejected.{notInitialized, fixed, untouched, accepted, skipStep, skipping, inventing, finalizing}
 
@@ -209,11 +210,11 @@ skipping-engine-fails-2 demand =
 
 -- a mac call of a new engine leaves 0 steps, a start without header 10
 tag-steps : counts «Schwaemm128_128» newReader 0 (Call.Mac ∷ []) ≡ 0 ∷ []
-unfolding counts read
+unfolding counts stepsBefore read
 tag-steps = refl
 
 begin-steps : counts «Schwaemm128_128» newReader 0 (begin zeros16 ∷ []) ≡ 10 ∷ []
-unfolding counts read startCheck leading ready
+unfolding counts stepsBefore read startCheck leading ready
 begin-steps = refl
 
 pub inventing-fails-2 : (k : ℕ) → Demand2 (inventing k) → ⊥

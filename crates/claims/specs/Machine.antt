@@ -4,24 +4,21 @@ use mathlib.Core.Path.{_≡_}
 use mathlib.Core.Logic.{_↔_}
 use mathlib.Core.Bool.{false, cond}
 use mathlib.Core.List.{List, [], _∷_, _++_, map}
-use Prim.Native.Nat.{ℕ, _+_, _-_, _*_, _%_, _^_}
-use lib.ListN.{length, take}
-use Rattle.schwaemm.specs.Blocks.{ready}
-use Rattle.schwaemm.specs.Schwaemm.{Params, seal, decrypt, body as bodyOf, leading, stepsOf, steps}
+use Prim.Native.Nat.{ℕ}
+use lib.ListN.{take}
+use Rattle.schwaemm.specs.Schwaemm.{seal, decrypt, body as bodyOf}
 use Rattle.tc_aead_cipher.specs.declared.variant.SparkleVariant.{SparkleVariant}
 use Rattle.tc_aead_cipher.specs.declared.phase.Direction.{Direction}
 use Rattle.tc_aead_cipher.specs.declared.phase.Direction.the-variants.{Encrypt, Decrypt}
-use Rattle.tc_aead_cipher.specs.declared.phase.Phase.{Phase}
-use Rattle.tc_aead_cipher.specs.declared.phase.Phase.the-variants.{Uninitialized, Init, Aad, Data, Final}
 use Rattle.tc_sparkle_aead.specs.declared.engine.SparkleEngine.{SparkleEngine}
 use Rattle.tc_aead_cipher.specs.Variant.{paramsOf}
-use Rattle.tc_aead_cipher.specs.Checks.{keep}
 use Rattle.tc_sparkle_aead.specs.Engine.{newEngine}
 use Rattle.tc_aead_cipher.specs.Call.{Call}
 use Rattle.claims.specs.Shape.{Alike}
 use Rattle.tc_sparkle_aead.specs.Sheet.{step, Line, line}
 use Rattle.tc_aead_cipher.specs.Outcome.Outcome.{ok}
-use Rattle.claims.specs.Reader.{Reader, newReader, read, verdicts, reader}
+use Rattle.claims.specs.Reader.{newReader, verdicts, reader}
+use Rattle.claims.specs.Steps.{counts}
 use Rattle.claims.specs.Messages.{countOf, answerOf, handedBy, UnderWay, released, finishedBytes, shownTags}
 
 -- ---- Machines
@@ -74,47 +71,6 @@ handedOf m s before (c ∷ calls) =
     (handedBy c before (take (countOf (m .step s c .line .outcome)) (m .step s c .buffer))) calls
 
 -- ---- Demand 2
-
--- The steps that document 01's formula gives after a call, from the reader before and after it and the count before it:
--- big, plus for the header and for the message what has run.
-abbrev pub startSteps : Params → ℕ → ℕ
-startSteps p header = (p .big + leading p header * p .slim) % 2 ^ 64
-
-abbrev pub messageLength : Direction → Params → ℕ → ℕ
-messageLength Encrypt p n = n
-messageLength Decrypt p n = n - p .key
-
-abbrev pub endSteps : Phase → Params → ℕ → Direction → Reader → ℕ
-endSteps Uninitialized p before d r = before
-endSteps (Init _) p before d r = steps p (length (r .header)) (messageLength d p (length (r .body))) % 2 ^ 64
-endSteps (Aad _) p before d r = steps p (length (r .header)) (messageLength d p (length (r .body))) % 2 ^ 64
-endSteps (Data _) p before d r = steps p (length (r .header)) (messageLength d p (length (r .body))) % 2 ^ 64
-endSteps (Final _) p before d r = before
-
-abbrev pub finalSteps : Call → Phase → Params → ℕ → Direction → Reader → ℕ
-finalSteps (Call.Init _ key nonce size header) phase p before d r = before
-finalSteps (Call.Aad input) phase p before d r = before
-finalSteps (Call.Data input out) phase p before d r = before
-finalSteps (Call.Final out) phase p before d r = endSteps phase p before d r
-finalSteps Call.Reset phase p before d r = startSteps p (length (r .initial))
-finalSteps Call.Mac phase p before d r = before
-finalSteps (Call.Update n) phase p before d r = before
-finalSteps (Call.Output n) phase p before d r = before
-
-abbrev pub stepsIn : Phase → Phase → Params → ℕ → Call → Reader → ℕ
-stepsIn Uninitialized old p before c r = 0
-stepsIn (Init d) old p before c r = startSteps p 0
-stepsIn (Aad d) old p before c r = startSteps p (length (r .header))
-stepsIn (Data d) old p before c r =
-    (p .big + stepsOf p (length (r .header)) + ready (p .rate) (keep p (Data d)) (length (r .body)) * p .slim) % 2 ^ 64
-stepsIn (Final d) old p before c r = finalSteps c old p before d r
-
-unfoldable pub counts : SparkleVariant → Reader → ℕ → List Call → List ℕ
-counts v r before [] = []
-counts v r before (c ∷ calls) =
-    let q = read v r c .reader in
-    let n = stepsIn (q .phase) (r .phase) (paramsOf v) before c q in
-    n ∷ counts v q n calls
 
 -- A message: a start, data calls, each with its input and its output, and the end.
 pub record Piece : Type 0 where

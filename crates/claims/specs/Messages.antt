@@ -3,11 +3,10 @@ use mathlib.Core.Path.{_≡_}
 use mathlib.Core.Logic.{_↔_}
 use mathlib.Core.Bool.{Bool, true, false, cond}
 use mathlib.Core.List.{List, [], _∷_, _++_}
-use Prim.Native.Nat.{ℕ, _+_, _*_, _%_, _^_, _≤_, _<_}
+use Prim.Native.Nat.{ℕ, _+_, _%_, _^_, _≤_, _<_}
 use lib.ListN.{length, take, drop}
 use Rattle.schwaemm.specs.Blocks.{ready, given}
-use Rattle.schwaemm.specs.Schwaemm.{Params, crypt, prepared, messageBlock, seal, decrypt, tag, body as bodyOf, verified}
-use Rattle.schwaemm.specs.Schwaemm.{leading, stepsOf, steps}
+use Rattle.schwaemm.specs.Schwaemm.{Params, crypt, prepared, messageBlock, seal, decrypt, tag, body as bodyOf, verified, steps}
 use Rattle.tc_aead_cipher.specs.declared.variant.SparkleVariant.{SparkleVariant}
 use Rattle.tc_aead_cipher.specs.declared.phase.Direction.{Direction}
 use Rattle.tc_aead_cipher.specs.declared.phase.Phase.{Phase}
@@ -348,24 +347,6 @@ Before (Init d) = Unit {0}
 Before (Aad d) = Unit {0}
 Before (Data d) = Unit {0}
 Before (Final d) = ⊥
-
--- The specification's steps of what has run: with the start, the header's blocks but its last; in the data the whole
--- header and the blocks that went.
-unfoldable pub stepsBefore : Params → Phase → (header body : List ℕ) → ℕ
-stepsBefore p Uninitialized header body = 0
-stepsBefore p (Init d) header body = p .big + leading p (length header) * p .slim
-stepsBefore p (Aad d) header body = p .big + leading p (length header) * p .slim
-stepsBefore p (Data d) header body =
-    p .big + stepsOf p (length header) + ready (p .rate) (keep p (Data d)) (length body) * p .slim
-stepsBefore p (Final d) header body = 0
-
--- The count after init, to which every reset returns; 0 in Uninitialized.
-unfoldable pub stepsAfterInit : Params → Phase → (initial : List ℕ) → ℕ
-stepsAfterInit p Uninitialized initial = 0
-stepsAfterInit p (Init d) initial = p .big + leading p (length initial) * p .slim
-stepsAfterInit p (Aad d) initial = p .big + leading p (length initial) * p .slim
-stepsAfterInit p (Data d) initial = p .big + leading p (length initial) * p .slim
-stepsAfterInit p (Final d) initial = p .big + leading p (length initial) * p .slim
 
 -- Neither init nor reset.
 abbrev pub Keeps : Call → Type 0
