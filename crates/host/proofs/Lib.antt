@@ -1,7 +1,7 @@
 -- The laws that the proofs of `host` cite.
 -- Tests: tests of numbers that come out alike.
 -- ReadLaws, AnswerLaws, RunLaws: a call that is read, an answer that is written, the run of a list.
--- TextArray, TextNumbers, TextLines, TextSheet: texts in their array, numbers in decimal, lines that fit, document 01's sheet.
+-- TextArray, TextNumbers, TextLines: texts in their array, numbers in decimal, lines that fit.
 mod Tests
 mod ReadLaws
 mod AnswerLaws
@@ -9,4 +9,3 @@ mod RunLaws
 pub mod TextArray
 pub mod TextNumbers
 pub mod TextLines
-pub mod TextSheet

@@ -15,7 +15,6 @@ use Rattle.tc_aead_cipher.specs.declared.aead_init_error.AeadInitResult.the-var
 use Rattle.tc_aead_cipher.specs.declared.variant.SparkleVariant.{SparkleVariant}
 use Rattle.tc_aead_cipher.specs.declared.variant.SparkleVariant.the-variants.{«Schwaemm128_128», «Schwaemm256_128», «Schwaemm192_192», «Schwaemm256_256»}
 use Rattle.tc_aead_cipher.specs.Outcome.{outcome, startOutcome}
-use Rattle.claims.specs.Worked.{row}
 use Rattle.host.specs.declared.reply.Reply.{Reply}
 use Rattle.host.specs.declared.text.CallName.{CallName}
 use Rattle.host.specs.declared.text.CallName.the-variants.{Init, Aad, Data, Final, Reset, Mac, Update, Output}
@@ -85,7 +84,7 @@ module _ (r : Reply) (number : r .number < 256) (first : r .first < 2 ^ 64) (sec
 
   -- A line of every call, reply, count and flag fits.
   pub line-fits : (call : CallName) (steps : ℕ) (b : Bool) → steps < 2 ^ 64
-      → length (lineText call (row (outcomeOf r) steps b)) ≤ 128
+      → length (lineText call (record { outcome = outcomeOf r; steps = steps; readable = b })) ≤ 128
   unfolding lineText
   line-fits call steps b h =
       simp length-append

@@ -3,7 +3,6 @@ ghost use mathlib.Core.Path.{_≡_};
 ghost use mathlib.Core.List.{[], _∷_, _++_};
 ghost use Prim.Native.Nat.{_+_, _<_};
 ghost use Rattle.tc_aead_cipher.specs.Variant.{number};
-ghost use Rattle.claims.specs.Worked.{row};
 ghost use Rattle.host.specs.Reply.{outcomeOf, refusalOf};
 ghost use Rattle.host.specs.Text.{Adds, cut, textOf, text, decimal, spaced, outcomeText, nameText, flagText, lineText, titleText};
 use super::reply::Reply;
@@ -138,7 +137,7 @@ fn put_outcome(t: Text, reply: Reply) -> Text
 
 // A line of a sheet: the call, its answer, the steps, and whether a tag can be read.
 pub fn line(call: CallName, reply: Reply, steps: u64, readable: bool) -> Text
-    ensures { λ r. ⌜ r ≡ textOf (lineText call (row (outcomeOf reply) steps readable)) ⌝ }
+    ensures { λ r. ⌜ r ≡ textOf (lineText call (record { outcome = outcomeOf reply; steps = steps; readable = readable })) ⌝ }
 {
     let named = put_name(append(empty(), b"("), call);
     let answered = put_outcome(append(named, b" "), reply);
