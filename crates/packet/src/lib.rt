@@ -18,12 +18,14 @@ pub extern "C" fn schwaemm_seal(
     message: &[u8],
     output: &mut [u8],
     first: &mut usize,
+    second: &mut usize,
 ) -> u8
     ensures { λ r. ⌜ r ≡ packetOf variant Direction.Encrypt (now (key .entry)) (now (nonce .entry)) (now (header .entry)) (now (message .entry)) (now (output .entry)) .reply .number ⌝ }
     ensures { λ _. ⌜ now (first .exit) ≡ packetOf variant Direction.Encrypt (now (key .entry)) (now (nonce .entry)) (now (header .entry)) (now (message .entry)) (now (output .entry)) .reply .first ⌝ }
+    ensures { λ _. ⌜ now (second .exit) ≡ packetOf variant Direction.Encrypt (now (key .entry)) (now (nonce .entry)) (now (header .entry)) (now (message .entry)) (now (output .entry)) .reply .second ⌝ }
     ensures { λ _. ⌜ now (output .exit) ≡ packetOf variant Direction.Encrypt (now (key .entry)) (now (nonce .entry)) (now (header .entry)) (now (message .entry)) (now (output .entry)) .out ⌝ }
 {
-    let r = packet::packet(
+    let sealed = packet::packet(
         variant,
         Direction::Encrypt,
         key,
@@ -32,8 +34,9 @@ pub extern "C" fn schwaemm_seal(
         message,
         output,
     );
-    *first = r.first;
-    r.number
+    *first = sealed.first;
+    *second = sealed.second;
+    sealed.number
 }
 
 // Opens a packet: the message goes to the output.
@@ -46,12 +49,14 @@ pub extern "C" fn schwaemm_open(
     sealed: &[u8],
     output: &mut [u8],
     first: &mut usize,
+    second: &mut usize,
 ) -> u8
     ensures { λ r. ⌜ r ≡ packetOf variant Direction.Decrypt (now (key .entry)) (now (nonce .entry)) (now (header .entry)) (now (sealed .entry)) (now (output .entry)) .reply .number ⌝ }
     ensures { λ _. ⌜ now (first .exit) ≡ packetOf variant Direction.Decrypt (now (key .entry)) (now (nonce .entry)) (now (header .entry)) (now (sealed .entry)) (now (output .entry)) .reply .first ⌝ }
+    ensures { λ _. ⌜ now (second .exit) ≡ packetOf variant Direction.Decrypt (now (key .entry)) (now (nonce .entry)) (now (header .entry)) (now (sealed .entry)) (now (output .entry)) .reply .second ⌝ }
     ensures { λ _. ⌜ now (output .exit) ≡ packetOf variant Direction.Decrypt (now (key .entry)) (now (nonce .entry)) (now (header .entry)) (now (sealed .entry)) (now (output .entry)) .out ⌝ }
 {
-    let r = packet::packet(
+    let opened = packet::packet(
         variant,
         Direction::Decrypt,
         key,
@@ -60,6 +65,7 @@ pub extern "C" fn schwaemm_open(
         sealed,
         output,
     );
-    *first = r.first;
-    r.number
+    *first = opened.first;
+    *second = opened.second;
+    opened.number
 }

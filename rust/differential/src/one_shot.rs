@@ -2,7 +2,7 @@
 //! one data call and end on a new engine.
 
 use host::{Done, Packet};
-use replay::calls::{Call, Start, VARIANTS, ask, sealed, variant_number};
+use replay::calls::{Answer, Call, Start, VARIANTS, ask, ok, sealed, variant_number};
 use replay::recorder::Recorder;
 use tc_sparkle_aead::{SparkleEngine, SparkleVariant};
 
@@ -23,7 +23,7 @@ impl Case {
         let mut engine = SparkleEngine::new(self.variant);
         let (answer, _) = ask(&mut engine, &Call::Init(self.start.clone()));
         if answer.code != 0 {
-            return (done(answer.code, answer.values[0]), self.output.clone());
+            return (done(answer), self.output.clone());
         }
         let data = Call::Data {
             input: self.message.clone(),
@@ -31,7 +31,7 @@ impl Case {
         };
         let (answer, mut output) = ask(&mut engine, &data);
         if answer.code != 0 {
-            return (done(answer.code, answer.values[0]), output);
+            return (done(answer), output);
         }
         let written = answer.written();
         let end = Call::End {
@@ -39,12 +39,12 @@ impl Case {
         };
         let (answer, rest) = ask(&mut engine, &end);
         output[written..].copy_from_slice(&rest);
-        let first = if answer.code == 0 {
-            written + answer.written()
+        let done = if answer.code == 0 {
+            done(ok(written + answer.written()))
         } else {
-            answer.values[0]
+            done(answer)
         };
-        (done(answer.code, first), output)
+        (done, output)
     }
 
     /// What the port answers, and its output.
@@ -82,8 +82,14 @@ impl Case {
     }
 }
 
-fn done(code: u8, first: usize) -> Done {
-    Done { code, first }
+/// What the port has to return for an answer.
+fn done(answer: Answer) -> Done {
+    let [first, second] = answer.values;
+    Done {
+        code: answer.code,
+        first,
+        second,
+    }
 }
 
 /// A random packet, with lengths around the boundaries, damaged or not, into

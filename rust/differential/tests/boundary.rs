@@ -3,7 +3,7 @@
 //! what a whole packet's call leaves in its output.
 
 use differential::{call_list, expected, walks};
-use host::{ANSWER_HEAD, CALL_HEAD, MALFORMED, NO_ROOM, NO_VARIANT, Packet, Ran};
+use host::{ANSWER_HEAD, CALL_HEAD, Done, MALFORMED, NO_ROOM, NO_VARIANT, Packet, Ran};
 use replay::calls::{VARIANTS, variant_number};
 use replay::random::Random;
 use replay::recorder::{Contents, Recorder};
@@ -321,7 +321,16 @@ fn any_alignment() {
     }
 }
 
-/// A variant that is none: 23 and 0, and nothing is written.
+/// What a packet's call returns.
+fn returned(code: u8, [first, second]: [usize; 2]) -> Done {
+    Done {
+        code,
+        first,
+        second,
+    }
+}
+
+/// A variant that is none: 23 and zeros, and nothing is written.
 #[test]
 fn one_shot_without_a_variant() {
     for variant in (5..=255).chain([0]) {
@@ -335,7 +344,7 @@ fn one_shot_without_a_variant() {
         for call in [host::seal, host::open] {
             let mut output = [LENT; 80];
             let done = call(packet, &mut output);
-            assert_eq!((done.code, done.first), (NO_VARIANT, 0));
+            assert_eq!(done, returned(NO_VARIANT, [0, 0]));
             assert_eq!(output, [LENT; 80]);
         }
     }
@@ -349,7 +358,7 @@ fn one_shot_outputs() {
     for variant in VARIANTS {
         let (rate, tag) = (variant.nonce_bytes(), variant.tag_bytes());
         let (key, nonce) = (&vec![1; tag][..], &vec![2; rate][..]);
-        let check = |opening, (key, nonce), message: &[u8], room, code, first, start: &[u8]| {
+        let check = |opening, (key, nonce), message: &[u8], room, code, values, start: &[u8]| {
             let packet = Packet {
                 variant: variant_number(variant),
                 key,
@@ -360,7 +369,7 @@ fn one_shot_outputs() {
             let mut output = vec![LENT; room];
             let call = if opening { host::open } else { host::seal };
             let done = call(packet, &mut output);
-            assert_eq!((done.code, done.first), (code, first));
+            assert_eq!(done, returned(code, values));
             assert_eq!(output[..start.len()], *start);
             assert!(output[start.len()..].iter().all(|byte| *byte == LENT));
         };
@@ -378,26 +387,31 @@ fn one_shot_outputs() {
             let blocks = n.saturating_sub(1) / rate * rate;
             let last = n - blocks;
             let pair = (key, nonce);
-            check(false, pair, &message, n + tag + 9, 0, n + tag, &sealed);
-            check(true, pair, &sealed, n + 9, 0, n, &message);
+            let whole = n + tag;
+            check(false, pair, &message, whole + 9, 0, [whole, 0], &sealed);
+            check(true, pair, &sealed, n + 9, 0, [n, 0], &message);
             for (opening, input) in [(false, &message), (true, &sealed)] {
                 let (short_key, short_nonce) = ((&key[1..], nonce), (key, &nonce[1..]));
-                check(opening, short_key, input, n + tag, 1, tag - 1, &[]);
-                check(opening, short_nonce, input, n + tag, 2, rate - 1, &[]);
+                check(opening, short_key, input, whole, 1, [tag - 1, 0], &[]);
+                check(opening, short_nonce, input, whole, 2, [rate - 1, 0], &[]);
                 if blocks > 0 {
-                    check(opening, pair, input, blocks - 1, 4, blocks, &[]);
+                    let (room, values) = (blocks - 1, [blocks, blocks - 1]);
+                    check(opening, pair, input, room, 4, values, &[]);
                 }
             }
-            let (short, early) = (n + tag - 1, &sealed[..blocks]);
-            check(false, pair, &message, short, 4, last + tag, early);
+            let (values, early) = ([last + tag, last + tag - 1], &sealed[..blocks]);
+            check(false, pair, &message, whole - 1, 4, values, early);
             if n > 0 {
-                check(true, pair, &sealed, n - 1, 4, last, &message[..blocks]);
+                let (values, early) = ([last, last - 1], &message[..blocks]);
+                check(true, pair, &sealed, n - 1, 4, values, early);
             }
-            check(true, pair, &sealed[..tag - 1], n, 5, tag, &[]);
+            for came in [0, 1, tag - 1] {
+                check(true, pair, &sealed[..came], n, 5, [tag, came], &[]);
+            }
             sealed[n] ^= 1;
             let mut left = message.clone();
             left[blocks..].fill(0);
-            check(true, pair, &sealed, n + 9, 6, 0, &left);
+            check(true, pair, &sealed, n + 9, 6, [0, 0], &left);
         }
     }
 }

@@ -1,7 +1,7 @@
 //! Every entry of the four known-answer files (kat/), sealed and opened by the
 //! port: at once, and by lists that cut header and data in several ways.
 
-use host::{Answers, Direction, Packet};
+use host::{Answers, Direction, Done, Packet};
 use replay::calls::{VARIANTS, variant_number};
 use replay::kat::{Entry, entries};
 use replay::random::Random;
@@ -86,6 +86,15 @@ fn each(mut check: impl FnMut(SparkleVariant, &Entry)) {
     }
 }
 
+/// A packet sealed or opened at once, with so many bytes written.
+fn written(first: usize) -> Done {
+    Done {
+        code: 0,
+        first,
+        second: 0,
+    }
+}
+
 #[test]
 fn one_shot() {
     each(|variant, entry| {
@@ -98,7 +107,7 @@ fn one_shot() {
         };
         let mut sealed = vec![0xa5; entry.packet.len()];
         let done = host::seal(packet, &mut sealed);
-        assert_eq!((done.code, done.first), (0, sealed.len()));
+        assert_eq!(done, written(sealed.len()));
         assert!(sealed == entry.packet, "{variant}, {}", entry.count);
         let packet = Packet {
             message: &entry.packet,
@@ -106,7 +115,7 @@ fn one_shot() {
         };
         let mut opened = vec![0xa5; entry.message.len()];
         let done = host::open(packet, &mut opened);
-        assert_eq!((done.code, done.first), (0, opened.len()));
+        assert_eq!(done, written(opened.len()));
         assert!(opened == entry.message, "{variant}, {}", entry.count);
     });
 }
@@ -156,7 +165,7 @@ fn damaged() {
         };
         let mut opened = vec![0xa5; entry.message.len()];
         let done = host::open(packet, &mut opened);
-        assert_eq!((done.code, done.first), (6, 0));
+        assert_eq!((done.code, done.first, done.second), (6, 0, 0));
         let last = entry.message.len()
             - entry.message.len().saturating_sub(1) / variant.nonce_bytes() * variant.nonce_bytes();
         let from = opened.len() - last;

@@ -33,6 +33,8 @@ pub struct Done {
     pub code: u8,
     /// The bytes written, or the refusal's first value, or 0.
     pub first: usize,
+    /// The refusal's second value, or 0.
+    pub second: usize,
 }
 
 /// The arguments of a one-shot call that are read.
@@ -71,6 +73,7 @@ unsafe extern "C" {
         output: *mut u8,
         output_len: usize,
         first: *mut usize,
+        second: *mut usize,
     ) -> u8;
     fn schwaemm_open(
         variant: u8,
@@ -85,6 +88,7 @@ unsafe extern "C" {
         output: *mut u8,
         output_len: usize,
         first: *mut usize,
+        second: *mut usize,
     ) -> u8;
 }
 
@@ -109,7 +113,7 @@ pub fn run(list: &[u8], answers: &mut [u8]) -> Ran {
 macro_rules! at_once {
     ($function:ident, $packet:expr, $output:expr) => {{
         let (p, output): (Packet, &mut [u8]) = ($packet, $output);
-        let mut first = 0;
+        let (mut first, mut second) = (0, 0);
         // SAFETY: as in `run`.
         let code = unsafe {
             $function(
@@ -125,9 +129,14 @@ macro_rules! at_once {
                 output.as_mut_ptr(),
                 output.len(),
                 &mut first,
+                &mut second,
             )
         };
-        Done { code, first }
+        Done {
+            code,
+            first,
+            second,
+        }
     }};
 }
 

@@ -4,14 +4,14 @@ use host::{Done, Packet, wipe};
 
 use crate::{Error, Variant, stack};
 
-/// What a one-shot call returned, with totals for the refusals' values: the
-/// archive counts an end's output from where the end begins to write.
-fn result(done: Done, needed: usize, room: usize, came: usize) -> Result<usize, Error> {
+/// What a one-shot call returned. A refusal's values are passed on as they came,
+/// but for 4: there a single call's refusal counts from where that call begins to
+/// write, so what the whole packet needs and the whole output's length are told.
+fn result(done: Done, needed: usize, room: usize) -> Result<usize, Error> {
     match done.code {
         0 => Ok(done.first),
         4 => Err(Error::new(4, needed, room)),
-        5 => Err(Error::new(5, done.first, came)),
-        code => Err(Error::new(code, done.first, 0)),
+        code => Err(Error::new(code, done.first, done.second)),
     }
 }
 
@@ -50,7 +50,7 @@ pub fn seal_into(
     let done = host::seal(packet, output);
     stack::wipe();
     let needed = message.len().saturating_add(variant.tag_bytes());
-    result(done, needed, output.len(), message.len())
+    result(done, needed, output.len())
 }
 
 /// Seals a message: its ciphertext, and the tag behind it.
@@ -117,7 +117,7 @@ pub fn open_into(
     output: &mut [u8],
 ) -> Result<usize, Error> {
     let needed = packet.len().saturating_sub(variant.tag_bytes());
-    let (room, came) = (output.len(), packet.len());
+    let room = output.len();
     let packet = Packet {
         variant: variant.number(),
         key,
@@ -130,7 +130,7 @@ pub fn open_into(
     if matches!(done.code, 4 | 6) {
         wipe(&mut output[..needed.min(room)]);
     }
-    result(done, needed, room, came)
+    result(done, needed, room)
 }
 
 /// Opens a packet: the message, where the tag is the right one.

@@ -1,4 +1,4 @@
--- The export: the reply's number is returned, its first value goes out by `first`.
+-- The export: the reply's number is returned, its values go out by `first` and `second`.
 use mathlib.Core.Path.{ap}
 use Rattle.host.specs.declared.reply.Reply.{Reply}
 use borrow.Author.Needs.{needs}
@@ -13,8 +13,10 @@ same-length c = search needs
 
 returns : tie.Need-returns
 returns c =
-    let done = c .before .before .packet in
-    (ap (λ (r : Reply). r .number) (done .ensures .0), (ap (λ (r : Reply). r .first) (done .ensures .0), done .ensures .1))
+    let done = c .before .before .packet in (
+      ap (λ (r : Reply). r .number) (done .ensures .0),
+      (ap (λ (r : Reply). r .first) (done .ensures .0), (ap (λ (r : Reply). r .second) (done .ensures .0), done .ensures .1)),
+    )
 
 pub schwaemm-seal-spec : {M : Type 1} → statement M
 schwaemm-seal-spec = tie.close (tie.spec packet-requires same-length returns)
