@@ -1,14 +1,8 @@
-//! The host boundary of the port (docs/HOST.md): its three functions, a writer
-//! of call lists and a reader of answers. Nothing is checked or decided here;
-//! the crate `schwaemm` is the one for users.
+//! The host boundary of the port (docs/HOST.md): its three functions, and what
+//! writes lists for them and reads their answers (`call_list`). Nothing is
+//! checked or decided here; the crate `schwaemm` is the one for users.
 
-mod answer;
-mod list;
-mod wiped;
-
-pub use answer::{Answer, Answers, HEAD as ANSWER_HEAD};
-pub use list::{Direction, HEAD as CALL_HEAD, List};
-pub use wiped::{Wiped, wipe};
+pub use call_list::{ANSWER_HEAD, Answer, Answers, CALL_HEAD, Direction, List, Wiped, wipe};
 
 /// The code of a list that is malformed.
 pub const MALFORMED: u8 = 21;
