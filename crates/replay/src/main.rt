@@ -1,23 +1,18 @@
-// Replays call lists on new engines and compares every answer, every byte of every output and the
-// tag after every call with what the Rust original did. The file lists is written by rust/replay;
-// of an end in opening Aad, where the Rust is known to differ, it has document 01's answer.
-mod calls;
+// Replays call lists by the boundary's own function and compares all that it answers, byte for byte,
+// with what the Rust original did. The file lists is written by rust/replay; of an end in opening
+// Aad, where the Rust is known to differ, it has document 01's answer.
+ghost use Prim.Native.Nat.{_≤_};
+
+mod compare;
 mod record;
+mod say;
 
-use calls::Played;
-use host::reply::Reply;
-use host::variant;
-use libc::STDOUT_FILENO;
-use record::Head;
-use tc_sparkle_aead::engine;
-use tc_sparkle_aead::engine::SparkleEngine;
+use host::run;
+use host::run::Stop;
 
-// The engine of the current list, and the counts: lists, calls of this list, all calls, and calls
-// that differ.
-struct Run {
-    engine: SparkleEngine,
+// How many lists, calls and differences there were so far.
+struct Counts {
     lists: u64,
-    call: u64,
     calls: u64,
     differences: u64,
 }
@@ -30,192 +25,127 @@ enum Next {
 
 struct Stepped {
     next: Next,
-    run: Run,
-}
-
-fn say(text: &[u8]) {
-    io::write_all(STDOUT_FILENO, text);
-}
-
-fn say_number(text: &[u8], n: u64) {
-    io::write_all(STDOUT_FILENO, text);
-    io::print_decimal(STDOUT_FILENO, n);
-}
-
-fn more(run: Run) -> Stepped {
-    Stepped {
-        next: Next::More,
-        run,
-    }
-}
-
-fn malformed(run: Run) -> Stepped {
-    Stepped {
-        next: Next::Malformed,
-        run,
-    }
+    counts: Counts,
 }
 
 fn begin() -> Stepped {
-    more(Run {
-        engine: engine::new(variant::variant(1)),
-        lists: 0,
-        call: 0,
-        calls: 0,
-        differences: 0,
-    })
+    Stepped {
+        next: Next::More,
+        counts: Counts {
+            lists: 0,
+            calls: 0,
+            differences: 0,
+        },
+    }
 }
 
-// A new list has a new engine.
-fn list(run: Run, way: u8) -> Stepped {
-    more(Run {
-        engine: engine::new(variant::variant(way)),
-        lists: std::num::wrapping_add_u64(run.lists, 1),
-        call: 0,
-        calls: run.calls,
-        differences: run.differences,
-    })
+fn malformed(counts: Counts) -> Stepped {
+    Stepped {
+        next: Next::Malformed,
+        counts,
+    }
 }
 
-fn say_answer(text: &[u8], code: u8, first: usize, second: usize) {
-    say_number(text, code as u64);
-    say_number(b" ", first as u64);
-    say_number(b" ", second as u64);
-}
-
-// Says what differs, and answers how many calls do: 0 or 1.
-fn compare(run: Run, h: Head, a: Reply, output: bool, tag: bool) -> u64 {
-    let answer = calls::same_answer(a, h);
-    if answer && output && tag {
+// Says where the run of a list stopped before its end, and answers how often it did: 0 or 1.
+fn stopped(list: u64, stop: Stop) -> u64
+    ensures { λ r. ⌜ r ≤ 1 ⌝ }
+{
+    if stop.code == 0 {
         return 0;
     }
-    say_number(b"list ", run.lists);
-    say_number(b" call ", run.call);
-    say_number(b" kind ", h.kind as u64);
-    if !answer {
-        say_answer(b": answer ", a.number, a.first, a.second);
-        say_answer(b", expected ", h.code, h.first, h.second);
-    }
-    if !output {
-        say(b": the output differs");
-    }
-    if !tag {
-        say(b": the tag differs");
-    }
-    say(b"\n");
+    say::number(b"list ", list);
+    say::number(b": code ", stop.code as u64);
+    say::number(b" at ", stop.place as u64);
+    say::text(b"\n");
     1
 }
 
-// The counts once a call is made.
-fn counted(run: Run) -> Run {
-    let e = run.engine;
-    Run {
-        engine: e,
-        lists: run.lists,
-        call: std::num::wrapping_add_u64(run.call, 1),
-        calls: std::num::wrapping_add_u64(run.calls, 1),
-        differences: run.differences,
+// Says where bytes behind the answers were written, and answers how often they were: 0 or 1.
+fn behind(list: u64, got: &[u8], expected: &[u8]) -> u64
+    ensures { λ r. ⌜ r ≤ 1 ⌝ }
+{
+    if record::same(got, expected) {
+        return 0;
+    }
+    say::number(b"list ", list);
+    say::text(b": bytes behind the answers were written\n");
+    1
+}
+
+// Runs a list. Its answers have to be the first n of the expected bytes; the rest is what they
+// were written over.
+fn run_list(counts: Counts, list: &[u8], expected: &[u8], n: usize) -> Stepped {
+    let mut answers = record::room();
+    let stop = run::run_list(list, &mut answers);
+    let lists = std::num::wrapping_add_u64(counts.lists, 1);
+    let early = stopped(lists, stop);
+    let compared = compare::answers(lists, &answers, record::first(expected, n));
+    if !compared.whole {
+        return malformed(counts);
+    }
+    let late = behind(lists, record::rest(&answers, n), record::rest(expected, n));
+    let differences = std::num::wrapping_add_u64(compared.differences, early + late);
+    Stepped {
+        next: Next::More,
+        counts: Counts {
+            lists,
+            calls: std::num::wrapping_add_u64(counts.calls, compared.calls),
+            differences: std::num::wrapping_add_u64(counts.differences, differences),
+        },
     }
 }
 
-// What a call did, held to what is expected.
-fn judge(before: Run, h: Head, p: Played, tag: &[u8]) -> Stepped {
-    let run = counted(before);
-    let e = p.engine;
-    let a = p.answer;
-    let differs = compare(run, h, a, p.output, calls::same_tag(e, tag));
-    more(Run {
-        engine: e,
-        lists: run.lists,
-        call: run.call,
-        calls: run.calls,
-        differences: std::num::wrapping_add_u64(run.differences, differs),
-    })
+// What stands behind the length n of a list: the list, and its answers.
+fn list(fd: i32, counts: Counts, n: usize) -> Stepped {
+    let mut list = record::room();
+    let mut expected = record::room();
+    if !record::read(fd, &mut list, n) {
+        return malformed(counts);
+    }
+    let answers = record::read_number(fd);
+    if !answers.read {
+        return malformed(counts);
+    }
+    if !record::read(fd, &mut expected, answers.value) {
+        return malformed(counts);
+    }
+    run_list(counts, record::first(&list, n), &expected, answers.value)
 }
 
 // The file ends here, and has as many lists and calls as it says.
-fn end(fd: i32, run: Run, h: Head) -> Stepped {
-    let mut rest = [0u8; 1];
-    let got = io::read_full(fd, &mut rest);
-    if got != 0 {
-        return malformed(run);
+fn end(fd: i32, counts: Counts) -> Stepped {
+    let lists = record::read_number(fd);
+    let calls = record::read_number(fd);
+    if !lists.read {
+        return malformed(counts);
     }
-    if h.number as u64 != run.lists {
-        return malformed(run);
+    if !calls.read {
+        return malformed(counts);
     }
-    if h.first as u64 != run.calls {
-        return malformed(run);
+    if lists.value as u64 != counts.lists {
+        return malformed(counts);
+    }
+    if calls.value as u64 != counts.calls {
+        return malformed(counts);
+    }
+    if !record::at_end(fd) {
+        return malformed(counts);
     }
     Stepped {
         next: Next::End,
-        run,
+        counts,
     }
 }
 
-// The call of a record, made and judged.
-fn call(
-    run: Run,
-    h: Head,
-    key: &[u8; 1024],
-    nonce: &[u8; 1024],
-    input: &[u8; 1024],
-    output: &[u8; 1024],
-    tag: &[u8; 1024],
-) -> Stepped {
-    let e = run.engine;
-    let p = calls::play(
-        e,
-        h,
-        record::first(key, h.key),
-        record::first(nonce, h.nonce),
-        record::first(input, h.input),
-        record::first(output, h.output),
-    );
-    judge(run, h, p, record::first(tag, h.tag))
-}
-
-// The rest of a list's or a call's record: the runs of bytes, and what they are for.
-fn body(fd: i32, run: Run, h: Head) -> Stepped {
-    let mut key = [0u8; 1024];
-    let mut nonce = [0u8; 1024];
-    let mut input = [0u8; 1024];
-    let mut output = [0u8; 1024];
-    let mut tag = [0u8; 1024];
-    if !record::read(fd, &mut key, h.key) {
-        return malformed(run);
+fn step(fd: i32, counts: Counts) -> Stepped {
+    let n = record::read_number(fd);
+    if !n.read {
+        return malformed(counts);
     }
-    if !record::read(fd, &mut nonce, h.nonce) {
-        return malformed(run);
+    if n.value == 0 {
+        return end(fd, counts);
     }
-    if !record::read(fd, &mut input, h.input) {
-        return malformed(run);
-    }
-    if !record::read(fd, &mut output, h.output) {
-        return malformed(run);
-    }
-    if !record::read(fd, &mut tag, h.tag) {
-        return malformed(run);
-    }
-    if h.kind == 0 {
-        return list(run, h.way);
-    }
-    call(run, h, &key, &nonce, &input, &output, &tag)
-}
-
-fn step(fd: i32, run: Run) -> Stepped {
-    let mut bytes = [0u8; 38];
-    if !record::read(fd, &mut bytes, 38) {
-        return malformed(run);
-    }
-    let h = record::parse(&bytes);
-    if h.kind == 9 {
-        return end(fd, run, h);
-    }
-    if record::known(h.kind, h.way) {
-        body(fd, run, h)
-    } else {
-        malformed(run)
-    }
+    list(fd, counts, n.value)
 }
 
 fn goes_on(n: Next) -> bool {
@@ -228,22 +158,19 @@ fn goes_on(n: Next) -> bool {
 
 fn finish(s: Stepped) {
     let n = s.next;
-    let run = s.run;
+    let counts = s.counts;
     match n {
         Next::End => {
-            say_number(b"lists ", run.lists);
-            say_number(b" calls ", run.calls);
-            say_number(b" differences ", run.differences);
+            say::number(b"lists ", counts.lists);
+            say::number(b" calls ", counts.calls);
+            say::number(b" differences ", counts.differences);
         }
-        _ => {
-            say_number(b"the file is malformed after list ", run.lists);
-            say_number(b" call ", run.call);
-        }
+        _ => say::number(b"the file is malformed after list ", counts.lists),
     }
-    say(b"\n");
+    say::text(b"\n");
 }
 
-// A proved loop ends: a file of more records than this is taken as malformed.
+// A proved loop ends: a file of more lists than this is taken as malformed.
 fn replay(fd: i32) {
     let mut s = begin();
     let mut turns: u64 = 1_000_000;
@@ -252,8 +179,8 @@ fn replay(fd: i32) {
         if !goes_on(n) {
             break;
         }
-        let run = s.run;
-        s = step(fd, run);
+        let counts = s.counts;
+        s = step(fd, counts);
         turns -= 1;
     }
     finish(s);
@@ -264,7 +191,7 @@ fn main() {
     let fd = os::open_read(path);
     if fd < 0 {
         os::fail(path);
-        say(b"the file cannot be opened\n");
+        say::text(b"the file cannot be opened\n");
         return;
     }
     replay(fd);

@@ -1,103 +1,75 @@
-// A record of the file of call lists: its head of 38 bytes, and the runs of bytes after it. All
-// numbers are little-endian; rust/replay/src/file.rs has the layout.
+// The file of call lists. It has, for each list, the list's length, the list, the length of its
+// answers, and the answers that the list has to have, both byte for byte as docs/HOST.md says. Behind
+// the last list stand a length of 0, the number of lists and the number of calls, and nothing more.
+// Every number has eight bytes, the lowest first.
 ghost use mathlib.Core.Path.{_≡_};
-ghost use Prim.Native.Nat.{_+_, _≤_};
+ghost use Prim.Native.Nat.{_+_, _*_, _^_};
+ghost use lib.ListN.{length, take, drop, getD};
 ghost use Rattle.schwaemm.specs.Bytes.{same};
+ghost use Rattle.host.specs.Bytes.{numberAt};
 
-pub struct Head {
-    pub(crate) kind: u8,
-    // a list's variant, a start's direction
-    pub(crate) way: u8,
-    // what the output holds before the call
-    pub(crate) fill: u8,
-    // the expected answer: 0, or document 01's number of the refusal
-    pub(crate) code: u8,
-    // a start's tag size, a query's length
-    pub(crate) number: usize,
-    // the expected count or values
-    pub(crate) first: usize,
-    pub(crate) second: usize,
-    // how many bytes of each run follow
-    pub(crate) key: usize,
-    pub(crate) nonce: usize,
-    pub(crate) input: usize,
-    pub(crate) output: usize,
-    pub(crate) tag: usize,
+// A number of the file, and whether the file has it.
+pub struct FileNumber {
+    pub(crate) read: bool,
+    pub(crate) value: usize,
 }
 
-fn pair(low: u8, high: u8) -> usize {
-    (low as usize) + (high as usize) * 256
-}
-
-fn word(a: u8, b: u8, c: u8, d: u8) -> u32 {
-    (a as u32) + (b as u32) * 256 + (c as u32) * 65536 + (d as u32) * 16777216
-}
-
-fn long(low: u32, high: u32) -> usize {
-    (low as usize) + (high as usize) * 4294967296
-}
-
-fn pair_at(h: &[u8; 38], at: usize) -> usize
-    requires { ⌜ at + 2 ≤ 38 ⌝ }
+// Room for a list, or for its answers and what stands behind them, full of one byte;
+// rust/replay/src/file.rs writes nothing that is longer.
+pub(crate) fn room() -> [u8; 8192]
+    ensures { λ r. ⌜ 8192 ≡ length r ⌝ }
 {
-    pair(h[at], h[at + 1])
+    [0xa5; 8192]
 }
 
-fn word_at(h: &[u8; 38], at: usize) -> u32
-    requires { ⌜ at + 4 ≤ 38 ⌝ }
+fn word(a: u8, b: u8, c: u8, d: u8) -> u32
+    ensures { λ r. ⌜ r ≡ a + b * 2 ^ 8 + c * 2 ^ 16 + d * 2 ^ 24 ⌝ }
 {
-    word(h[at], h[at + 1], h[at + 2], h[at + 3])
+    (a as u32) + (b as u32) * 0x100 + (c as u32) * 0x1_0000 + (d as u32) * 0x100_0000
 }
 
-fn long_at(h: &[u8; 38], at: usize) -> usize
-    requires { ⌜ at + 8 ≤ 38 ⌝ }
+fn long(low: u32, high: u32) -> usize
+    ensures { λ r. ⌜ r ≡ low + high * 2 ^ 32 ⌝ }
 {
-    long(word_at(h, at), word_at(h, at + 4))
+    (low as usize) + (high as usize) * 0x1_0000_0000
 }
 
-pub(crate) fn parse(h: &[u8; 38]) -> Head {
-    Head {
-        kind: h[0],
-        way: h[1],
-        fill: h[2],
-        code: h[3],
-        number: long_at(h, 4),
-        first: long_at(h, 12),
-        second: long_at(h, 20),
-        key: pair_at(h, 28),
-        nonce: pair_at(h, 30),
-        input: pair_at(h, 32),
-        output: pair_at(h, 34),
-        tag: pair_at(h, 36),
-    }
+// The byte at a place; 0 where there is none.
+fn byte_at(s: &[u8], at: usize) -> u8
+    ensures { λ r. ⌜ r ≡ getD (now (s .entry)) at 0 ⌝ }
+{
+    if at < s.len() { s[at] } else { 0 }
 }
 
-// Whether a list's or a call's kind is known and its variant or direction is one.
-pub(crate) fn known(kind: u8, way: u8) -> bool {
-    match kind {
-        0 => match way {
-            1..=4 => true,
-            _ => false,
-        },
-        1 => way < 2,
-        2..=8 => way == 0,
-        _ => false,
-    }
-}
-
-// Reads the next n bytes; false where the buffer has no room for them or the file has too few.
-pub(crate) fn read(fd: i32, buf: &mut [u8], n: usize) -> bool {
-    if n <= buf.len() {
-        let got = io::read_full(fd, &mut buf[0..n]);
-        got == n
-    } else {
-        false
-    }
+// The number of the first eight bytes, the lowest first; of all where there are fewer.
+pub(crate) fn number(s: &[u8]) -> usize
+    ensures { λ r. ⌜ r ≡ numberAt (now (s .entry)) 0 ⌝ }
+{
+    long(
+        word(byte_at(s, 0), byte_at(s, 1), byte_at(s, 2), byte_at(s, 3)),
+        word(byte_at(s, 4), byte_at(s, 5), byte_at(s, 6), byte_at(s, 7)),
+    )
 }
 
 // The first n bytes, or all where there are fewer.
-pub(crate) fn first<'a>(s: &'a [u8], n: usize) -> &'a [u8] {
-    if n <= s.len() { &s[0..n] } else { s }
+pub(crate) fn first<'a>(s: &'a [u8], n: usize) -> &'a [u8]
+    ensures { λ r. ⌜ now r ≡ take n (now (s .entry)) ⌝ }
+{
+    if n <= s.len() { &s[..n] } else { s }
+}
+
+// What stands from a place on.
+pub(crate) fn rest<'a>(s: &'a [u8], at: usize) -> &'a [u8]
+    ensures { λ r. ⌜ now r ≡ drop at (now (s .entry)) ⌝ }
+{
+    if at <= s.len() { &s[at..] } else { &s[..0] }
+}
+
+// The n bytes from a place on, or all from there on where there are fewer.
+pub(crate) fn part<'a>(s: &'a [u8], at: usize, n: usize) -> &'a [u8]
+    ensures { λ r. ⌜ now r ≡ take n (drop at (now (s .entry))) ⌝ }
+{
+    first(rest(s, at), n)
 }
 
 // Whether two slices hold the same bytes.
@@ -115,4 +87,31 @@ pub(crate) fn same(a: &[u8], b: &[u8]) -> bool
         i += 1;
     }
     true
+}
+
+// Reads the next n bytes; false where the buffer has no room for them or the file has too few.
+pub(crate) fn read(fd: i32, buf: &mut [u8], n: usize) -> bool {
+    if n <= buf.len() {
+        let got = io::read_full(fd, &mut buf[0..n]);
+        got == n
+    } else {
+        false
+    }
+}
+
+// Reads the next number.
+pub(crate) fn read_number(fd: i32) -> FileNumber {
+    let mut bytes = [0u8; 8];
+    let read = read(fd, &mut bytes, 8);
+    FileNumber {
+        read,
+        value: number(&bytes),
+    }
+}
+
+// Whether nothing more is in the file.
+pub(crate) fn at_end(fd: i32) -> bool {
+    let mut more = [0u8; 1];
+    let got = io::read_full(fd, &mut more);
+    got == 0
 }

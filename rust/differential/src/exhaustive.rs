@@ -4,7 +4,7 @@ use std::collections::HashMap;
 
 use replay::calls::{Call, Start, VARIANTS, sealed};
 use replay::random::Random;
-use replay::recorder::{Contents, List, Recorder};
+use replay::recorder::{List, Recorder};
 use tc_sparkle_aead::SparkleVariant;
 
 /// A call whose lengths depend on the variant and on what was called before.
@@ -133,7 +133,7 @@ pub fn lists(
 
 /// A recorder for lists of this kind.
 pub fn recorder() -> Recorder {
-    Recorder::new(0x5741_4c4b, Contents::Random)
+    Recorder::new(0x5741_4c4b)
 }
 
 impl Bytes {

@@ -16,80 +16,19 @@ pub mod walks;
 
 use std::fmt::Write;
 
-use host::{Answer, Answers, Direction, Ran};
+use host::{Answers, Ran};
+use replay::boundary::{call_list, expected};
 use replay::calls::{Call, PANICKED, variant_number};
-use replay::recorder::{Contents, List, Played, Recorder};
-use tc_sparkle_aead::SparkleVariant;
+use replay::recorder::{List, play};
 
 /// What runs a list and writes its answers: `host::run`, or in tests of the
 /// comparison itself something that does it wrongly.
 pub type Port<'a> = &'a dyn Fn(&[u8], &mut [u8]) -> Ran;
 
-/// The calls as docs/HOST.md writes them.
-pub fn call_list<'a>(
-    variant: SparkleVariant,
-    calls: impl IntoIterator<Item = &'a Call>,
-) -> host::List {
-    let mut list = host::List::new(variant_number(variant));
-    for call in calls {
-        match call {
-            Call::Init(s) => {
-                let way = if s.opening {
-                    Direction::Opening
-                } else {
-                    Direction::Sealing
-                };
-                list.init(way, s.size as u64, &s.key, &s.nonce, &s.header);
-            }
-            Call::Aad { input } => list.process_aad_bytes(input),
-            Call::Data { input, output } => list.process_bytes(input, output),
-            Call::End { output } => list.do_final(output),
-            Call::Reset => list.reset(),
-            Call::Mac => list.mac(),
-            Call::UpdateOutputLen(n) => list.update_output_len(*n as u64),
-            Call::OutputLen(n) => list.output_len(*n as u64),
-        }
-    }
-    list
-}
-
-/// The bytes that an answer of docs/HOST.md has behind its head.
-fn given_back(played: &Played) -> Vec<u8> {
-    if played.call == Call::Mac {
-        let mut tag = played.tag.clone().unwrap_or_default();
-        tag.resize(32, 0);
-        tag
-    } else {
-        played.output.clone()
-    }
-}
-
-/// Appends the answer that the port has to write.
-fn write_expected(played: &Played, to: &mut Vec<u8>) {
-    let answer = Answer {
-        code: played.answer.code,
-        readable: u8::from(played.tag.is_some()),
-        first: played.answer.values[0] as u64,
-        second: played.answer.values[1] as u64,
-        steps: played.steps,
-        bytes: &given_back(played),
-    };
-    answer.write(to);
-}
-
-/// The answers that the port has to write for a list.
-pub fn expected(list: &List) -> Vec<u8> {
-    let mut to = Vec::new();
-    for played in &list.calls {
-        write_expected(played, &mut to);
-    }
-    to
-}
-
 /// Runs a list on the port, with `spare` bytes of answers more than it needs,
 /// and compares all that comes back. An error says what differs.
 pub fn compare(port: Port, list: &List, spare: usize) -> Result<(), String> {
-    let calls = call_list(list.variant, list.calls.iter().map(|played| &played.call));
+    let calls = call_list(list);
     let mut expected = expected(list);
     expected.resize(expected.len() + spare, 0xa5);
     let mut answers = vec![0xa5; expected.len()];
@@ -116,16 +55,6 @@ fn first_difference(list: &List, answers: &[u8], expected: &[u8]) -> String {
         }
     }
     "the answers behind the last call".to_string()
-}
-
-/// Plays the calls on the Rust's engine.
-fn play<'a>(variant: SparkleVariant, calls: impl IntoIterator<Item = &'a Call>) -> List {
-    let mut r = Recorder::new(0, Contents::Random);
-    r.list(variant);
-    for call in calls {
-        r.call(call.clone());
-    }
-    r.take().remove(0)
 }
 
 /// The calls, one form a line, with what the last one answered.

@@ -18,7 +18,7 @@ use std::time::{SystemTime, UNIX_EPOCH};
 use differential::exhaustive::{self, Letter, NARROW, WIDE};
 use differential::tally::Tally;
 use differential::{one_shot, walks};
-use replay::recorder::{Contents, Recorder};
+use replay::recorder::Recorder;
 use replay::scenes;
 
 /// Alphabets and the longest lists of their letters.
@@ -80,11 +80,7 @@ fn main() -> ExitCode {
                 return usage();
             };
             println!("seed {seed}");
-            random_lists(
-                &mut tally,
-                &mut Recorder::new(seed, Contents::Random),
-                lists,
-            )
+            random_lists(&mut tally, &mut Recorder::new(seed), lists)
         }
         _ => return usage(),
     };

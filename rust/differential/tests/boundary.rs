@@ -2,11 +2,12 @@
 //! codes 21 to 23, their places, and what the lent slices hold afterwards; and
 //! what a whole packet's call leaves in its output.
 
-use differential::{call_list, expected, walks};
+use differential::walks;
 use host::{ANSWER_HEAD, CALL_HEAD, Done, MALFORMED, NO_ROOM, NO_VARIANT, Packet, Ran};
+use replay::boundary::{call_list, expected};
 use replay::calls::{VARIANTS, variant_number};
 use replay::random::Random;
-use replay::recorder::{Contents, Recorder};
+use replay::recorder::Recorder;
 
 /// What the lent answers hold before a run.
 const LENT: u8 = 0x5a;
@@ -74,14 +75,14 @@ fn check(list: &[u8], room: usize) -> Ran {
 
 /// Random lists with the answers that all their calls have.
 fn lists(seed: u64, n: usize) -> Vec<(Vec<u8>, Vec<u8>)> {
-    let mut r = Recorder::new(seed, Contents::Random);
+    let mut r = Recorder::new(seed);
     (0..n).for_each(|_| walks::walk(&mut r));
     let lists = r.take();
     assert_eq!(lists.len(), n);
     lists
         .iter()
         .map(|list| {
-            let calls = call_list(list.variant, list.calls.iter().map(|p| &p.call));
+            let calls = call_list(list);
             assert!(!list.calls.is_empty());
             assert_eq!(calls.answers_len(), expected(list).len());
             (calls.bytes().to_vec(), expected(list))

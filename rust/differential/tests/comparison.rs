@@ -3,12 +3,13 @@
 
 use differential::{compare, smallest};
 use host::Ran;
+use replay::boundary::expected;
 use replay::calls::{Start, VARIANTS};
-use replay::recorder::{Contents, List, Recorder};
+use replay::recorder::{List, Recorder};
 
 /// A list with a header, data, a refused and a successful end, and the tag.
 fn sealing() -> List {
-    let mut r = Recorder::new(7, Contents::Random);
+    let mut r = Recorder::new(7);
     r.list(VARIANTS[0]);
     r.mac();
     let start = Start {
@@ -29,7 +30,7 @@ fn sealing() -> List {
 
 /// Where each answer begins.
 fn places(list: &List) -> Vec<usize> {
-    let answers = differential::expected(list);
+    let answers = expected(list);
     let mut places = vec![0];
     for answer in host::Answers(&answers) {
         places.push(places[places.len() - 1] + host::ANSWER_HEAD + answer.bytes.len());

@@ -2,16 +2,17 @@
 //! each on its smallest list: both sides answer as the row says. The rows on
 //! the permutation are shown in rust/vectors and rust/oracle.
 
-use differential::{call_list, compare, expected};
+use differential::compare;
+use replay::boundary::{call_list, expected};
 use replay::calls::{Answer, Call, PANICKED, Start, VARIANTS, no, ok, sealed};
-use replay::recorder::{Contents, List, Recorder};
+use replay::recorder::{List, Recorder};
 use tc_aead_cipher::{AeadCipher, AeadCipherInit, AeadError, AeadInitError, AeadParamsRef};
 use tc_block_cipher::CipherDirection;
 use tc_sparkle_aead::{SparkleEngine, SparkleVariant};
 
 /// The port's answers to a list's calls.
 fn port(list: &List) -> Vec<Answer> {
-    let calls = call_list(list.variant, list.calls.iter().map(|played| &played.call));
+    let calls = call_list(list);
     let mut answers = vec![0; calls.answers_len()];
     assert_eq!(host::run(calls.bytes(), &mut answers).code, 0);
     host::Answers(&answers)
@@ -36,7 +37,7 @@ fn start(variant: SparkleVariant, opening: bool, header: usize) -> Start {
 
 /// A start for opening with a header, and an end.
 fn end_in_opening_aad(variant: SparkleVariant, header: usize) -> List {
-    let mut r = Recorder::new(0, Contents::Random);
+    let mut r = Recorder::new(0);
     r.list(variant);
     r.init(&start(variant, true, header));
     r.end(0);
@@ -97,7 +98,7 @@ fn end_in_opening_aad_changes_nothing() {
         let begin = start(variant, true, variant.nonce_bytes());
         let message = vec![4; 2 * variant.nonce_bytes() + 1];
         let packet = sealed(variant, &begin, &[], &message);
-        let mut r = Recorder::new(0, Contents::Random);
+        let mut r = Recorder::new(0);
         r.list(variant);
         r.init(&begin);
         r.end(5);
@@ -133,7 +134,7 @@ fn previous_init_is_the_last_loaded_pair() {
     let answer = engine.init(CipherDirection::Encrypt, &one);
     assert_eq!(answer, Err(AeadInitError::NonceReuse));
 
-    let mut r = Recorder::new(0, Contents::Random);
+    let mut r = Recorder::new(0);
     r.list(variant);
     let one = start(variant, false, 0);
     r.init(&one);

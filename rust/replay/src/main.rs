@@ -8,15 +8,15 @@ use std::io::Write;
 
 use replay::calls::VARIANTS;
 use replay::counts::Counts;
-use replay::file::file;
-use replay::recorder::{Contents, List, Recorder};
+use replay::file::{file, tags_read};
+use replay::recorder::{List, Recorder};
 use replay::scenes;
 
 fn record() -> Vec<List> {
-    let mut r = Recorder::new(0x5343_4857_4145_4d4d, Contents::OneByte);
+    let mut r = Recorder::new(0x5343_4857_4145_4d4d);
     scenes::all(&mut r);
     scenes::known_answers(&mut r);
-    r.take()
+    r.take().iter().map(tags_read).collect()
 }
 
 /// What the lists hold.
@@ -46,14 +46,34 @@ fn main() -> std::io::Result<()> {
 
 #[cfg(test)]
 mod tests {
-    /// The port's data file is what this program writes.
+    use replay::calls::Call;
+
+    /// A file of the port's program.
+    fn kept(name: &str) -> Vec<u8> {
+        let folder = concat!(env!("CARGO_MANIFEST_DIR"), "/../../crates/replay");
+        std::fs::read(format!("{folder}/{name}")).unwrap()
+    }
+
+    /// The port's data file is what this program writes, and the port's program
+    /// has to count as many lists and calls.
     #[test]
     fn the_file_is_kept() {
-        let path = concat!(
-            env!("CARGO_MANIFEST_DIR"),
-            "/../../crates/replay/data/lists"
-        );
-        assert!(std::fs::read(path).unwrap() == super::file(&super::record()));
+        let lists = super::record();
+        assert!(kept("data/lists") == super::file(&lists));
+        let calls: usize = lists.iter().map(|list| list.calls.len()).sum();
+        let counts = format!("lists {} calls {calls} differences 0\n", lists.len());
+        assert_eq!(kept("stdout"), counts.as_bytes());
+    }
+
+    /// Wherever a tag can be read after a call, it is compared.
+    #[test]
+    fn every_tag_is_read() {
+        for list in super::record() {
+            for (i, played) in list.calls.iter().enumerate() {
+                let reads = |i: usize| list.calls.get(i).is_some_and(|p| p.call == Call::Mac);
+                assert!(played.tag.is_none() || reads(i) || reads(i + 1));
+            }
+        }
     }
 
     /// Every variant has every answer, and every call in every phase and

@@ -18,15 +18,6 @@ pub enum Phase {
     Final,
 }
 
-/// What outputs hold before a call.
-#[derive(Clone, Copy, PartialEq, Eq)]
-pub enum Contents {
-    /// One byte, not 0, over and over.
-    OneByte,
-    /// Random bytes, none of them 0.
-    Random,
-}
-
 /// A call and all that came of it.
 pub struct Played {
     pub call: Call,
@@ -54,7 +45,6 @@ pub struct List {
 /// The engine, what is known of it, and the lists so far.
 pub struct Recorder {
     pub random: Random,
-    pub contents: Contents,
     pub variant: SparkleVariant,
     pub phase: Phase,
     pub opening: bool,
@@ -78,10 +68,9 @@ fn slim_and_big(variant: SparkleVariant) -> (usize, usize) {
 }
 
 impl Recorder {
-    pub fn new(seed: u64, contents: Contents) -> Self {
+    pub fn new(seed: u64) -> Self {
         Recorder {
             random: Random(seed),
-            contents,
             variant: VARIANTS[0],
             phase: Phase::Uninitialized,
             opening: false,
@@ -281,12 +270,9 @@ impl Recorder {
         }
     }
 
-    /// An output of `room` bytes before a call.
+    /// An output of `room` bytes before a call: random bytes, none of them 0.
     fn output(&mut self, room: usize) -> Vec<u8> {
-        match self.contents {
-            Contents::OneByte => vec![self.random.fill(); room],
-            Contents::Random => (0..room).map(|_| self.random.fill()).collect(),
-        }
+        (0..room).map(|_| self.random.fill()).collect()
     }
 
     pub fn init(&mut self, start: &Start) -> Answer {
@@ -343,6 +329,16 @@ impl Recorder {
         self.call(Call::UpdateOutputLen(number));
         self.call(Call::OutputLen(number));
     }
+}
+
+/// Plays the calls on a new engine of the Rust's.
+pub fn play<'a>(variant: SparkleVariant, calls: impl IntoIterator<Item = &'a Call>) -> List {
+    let mut r = Recorder::new(0);
+    r.list(variant);
+    for call in calls {
+        r.call(call.clone());
+    }
+    r.take().remove(0)
 }
 
 /// A call's answer, and what it wrote.
