@@ -1,4 +1,6 @@
--- The laws of the variants, the phases and the checks.
+-- The laws of the variants, the phases, the checks, the replies and the kinds of calls.
 pub mod VariantLaws
 pub mod PhaseLaws
 pub mod CheckLaws
+pub mod ReplyLaws
+pub mod CallKinds

@@ -1,10 +1,12 @@
--- What holds of every variant: its sizes meet the specification's conditions, and fit the engine's arrays.
+-- What holds of every variant: its sizes meet the specification's conditions, and fit the engine's arrays; its number
+-- names it.
+use mathlib.Core.Path.{_≡_, refl}
 use mathlib.Core.Bool.{Bool, true, false, cond}
 use Prim.Native.Nat.{ℕ, _≤_}
 use native.Mathlib.Omega.{arith}
 use Rattle.schwaemm.specs.Schwaemm.{Params, Sizes}
 use Rattle.schwaemm.proofs.Variants.{sizes128-128, sizes256-128, sizes192-192, sizes256-256}
-use Rattle.tc_aead_cipher.specs.Variant.{paramsOf}
+use Rattle.tc_aead_cipher.specs.Variant.{paramsOf, number, isVariant, variantOf}
 use Rattle.tc_aead_cipher.specs.Checks.{opening, keep}
 use Rattle.tc_aead_cipher.specs.declared.phase.Phase.{Phase}
 use Rattle.tc_aead_cipher.specs.declared.variant.SparkleVariant.{SparkleVariant}
@@ -35,3 +37,17 @@ keep-is false n = omega arith
 
 pub keep-bound : (p : Params) (phase : Phase) → keep p phase ≤ p .key
 keep-bound p phase = keep-is (opening phase) (p .key)
+
+pub number-is-one : (v : SparkleVariant) → isVariant (number v) ≡ true
+unfolding isVariant
+number-is-one «Schwaemm128_128» = refl
+number-is-one «Schwaemm256_128» = refl
+number-is-one «Schwaemm192_192» = refl
+number-is-one «Schwaemm256_256» = refl
+
+pub variant-of-number : (v : SparkleVariant) → variantOf (number v) ≡ v
+unfolding variantOf
+variant-of-number «Schwaemm128_128» = refl
+variant-of-number «Schwaemm256_128» = refl
+variant-of-number «Schwaemm192_192» = refl
+variant-of-number «Schwaemm256_256» = refl

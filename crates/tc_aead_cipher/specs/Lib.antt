@@ -4,3 +4,4 @@ pub mod Refusals
 pub mod Checks
 pub mod Call
 pub mod Outcome
+pub mod Reply

@@ -1,6 +1,6 @@
 // The four parameter sets (the Rust's variant.rs; document 01's table of variants).
 ghost use mathlib.Core.Path.{_≡_};
-ghost use Rattle.tc_aead_cipher.specs.Variant.{paramsOf};
+ghost use Rattle.tc_aead_cipher.specs.Variant.{paramsOf, number, isVariant, variantOf};
 
 pub enum SparkleVariant {
     Schwaemm128_128,
@@ -10,6 +10,18 @@ pub enum SparkleVariant {
 }
 
 impl SparkleVariant {
+    // Document 01's number.
+    pub fn number(self) -> u8
+        ensures { λ r. ⌜ r ≡ number self ⌝ }
+    {
+        match self {
+            SparkleVariant::Schwaemm128_128 => 1,
+            SparkleVariant::Schwaemm256_128 => 2,
+            SparkleVariant::Schwaemm192_192 => 3,
+            SparkleVariant::Schwaemm256_256 => 4,
+        }
+    }
+
     pub fn key_bytes(self) -> usize
         ensures { λ r. ⌜ r ≡ paramsOf self .key ⌝ }
     {
@@ -62,5 +74,24 @@ impl SparkleVariant {
             SparkleVariant::Schwaemm256_256 => 2,
         };
         steps[k]
+    }
+}
+
+// Whether a variant has the number.
+pub fn is_variant(n: u8) -> bool
+    ensures { λ r. ⌜ r ≡ isVariant n ⌝ }
+{
+    if n < 1 { false } else { n <= 4 }
+}
+
+// The variant of a number; of one that no variant has, the last.
+pub fn variant_of(n: u8) -> SparkleVariant
+    ensures { λ r. ⌜ r ≡ variantOf n ⌝ }
+{
+    match n {
+        1 => SparkleVariant::Schwaemm128_128,
+        2 => SparkleVariant::Schwaemm256_128,
+        3 => SparkleVariant::Schwaemm192_192,
+        _ => SparkleVariant::Schwaemm256_256,
     }
 }

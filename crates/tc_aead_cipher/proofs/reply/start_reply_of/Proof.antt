@@ -1,13 +1,13 @@
 -- `start_reply_of` meets its contract, arm by arm.
 use borrow.Author.Needs.{needs}
-use Rattle.host.proofs.reply.start_reply_of.Statement.{statement}
-use Rattle.host.proofs.reply.start_reply_of.Tie as tie
+use Rattle.tc_aead_cipher.proofs.reply.start_reply_of.Statement.{statement}
+use Rattle.tc_aead_cipher.proofs.reply.start_reply_of.Tie as tie
 
 returns : tie.Need-returns
-returns c = rw (c .before .enum-told .given .1) (c .told .ensures)
+returns c = rw (c .before .enum-told .given .1) (c .count .ensures)
 
 returns-2 : tie.Need-returns-2
-returns-2 c = rw (c .before .before .r .given .1) (c .start-refusal .ensures)
+returns-2 c = rw (c .before .before .r .given .1) (c .init-refusal .ensures)
 
 pub start-reply-of-spec : {M : Type 1} → statement M
 start-reply-of-spec =

@@ -1,9 +1,9 @@
 -- Each arm by its number, the last by what is left.
 use mathlib.Core.Path.{refl}
 use borrow.Author.Tests.{ne-eqb}
-use Rattle.host.specs.Variant.{variantOf}
-use Rattle.host.proofs.variant.variant.Statement.{statement}
-use Rattle.host.proofs.variant.variant.Tie as tie
+use Rattle.tc_aead_cipher.specs.Variant.{variantOf}
+use Rattle.tc_aead_cipher.proofs.variant.variant_of.Statement.{statement}
+use Rattle.tc_aead_cipher.proofs.variant.variant_of.Tie as tie
 
 returns : tie.Need-returns
 unfolding variantOf
@@ -23,5 +23,5 @@ returns-4 c =
     let n = c .before .args .n in
     rw (ne-eqb n 1 (c .match .rest .0 .0 .1), ne-eqb n 2 (c .match .rest .0 .1), ne-eqb n 3 (c .match .rest .1)) refl
 
-pub variant-spec : {M : Type 1} → statement M
-variant-spec = tie.close (tie.spec returns returns-2 returns-3 returns-4)
+pub variant-of-spec : {M : Type 1} → statement M
+variant-of-spec = tie.close (tie.spec returns returns-2 returns-3 returns-4)

@@ -2,9 +2,9 @@
 use mathlib.Core.Path.{refl}
 use native.Mathlib.Omega.{arith}
 use borrow.Author.Tests.{lt-ltb, le-ltb}
-use Rattle.host.specs.Variant.{isVariant}
-use Rattle.host.proofs.variant.is_variant.Statement.{statement}
-use Rattle.host.proofs.variant.is_variant.Tie as tie
+use Rattle.tc_aead_cipher.specs.Variant.{isVariant}
+use Rattle.tc_aead_cipher.proofs.variant.is_variant.Statement.{statement}
+use Rattle.tc_aead_cipher.proofs.variant.is_variant.Tie as tie
 
 returns : tie.Need-returns
 unfolding isVariant

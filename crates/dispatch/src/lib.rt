@@ -1,0 +1,87 @@
+// One call of an engine by its kind, with its arguments as a number, three runs of bytes and an output: which of the
+// engine's calls a kind means is decided here and nowhere else.
+ghost use mathlib.Core.Path.{_≡_};
+ghost use mathlib.Core.Bool.{cond};
+ghost use Rattle.tc_aead_cipher.specs.Variant.{paramsOf};
+ghost use Rattle.tc_aead_cipher.specs.Call.{callOf};
+ghost use Rattle.tc_sparkle_aead.specs.Calls.{macOf};
+ghost use Rattle.dispatch.specs.Called.{calledOf, startedOf, doneOf, outputAfter};
+use tc_aead_cipher::call::CallKind;
+use tc_aead_cipher::reply;
+use tc_aead_cipher::reply::Reply;
+use tc_sparkle_aead::aead_cipher;
+use tc_sparkle_aead::engine;
+use tc_sparkle_aead::engine::Done;
+use tc_sparkle_aead::engine::SparkleEngine;
+use tc_sparkle_aead::engine::Started;
+
+// What a call leaves: its answer as numbers, and the engine.
+pub struct Called {
+    pub reply: Reply,
+    pub engine: SparkleEngine,
+}
+
+fn started(s: Started) -> Called
+    ensures { λ r. ⌜ r ≡ startedOf s ⌝ }
+{
+    let answer = s.answer;
+    Called {
+        reply: reply::start_reply_of(answer),
+        engine: s.engine,
+    }
+}
+
+fn done(d: Done) -> Called
+    ensures { λ r. ⌜ r ≡ doneOf d ⌝ }
+{
+    let answer = d.answer;
+    Called {
+        reply: reply::reply_of(answer),
+        engine: d.engine,
+    }
+}
+
+// The bytes of the tag that can be read, or 0.
+fn tag_len(e: SparkleEngine) -> usize
+    ensures { λ r. ⌜ r ≡ cond (macOf e .readable) (paramsOf (e .variant) .key) 0 ⌝ }
+{
+    let m = aead_cipher::mac(e);
+    if m.readable { engine::tag_bytes(e) } else { 0 }
+}
+
+// Makes the call of a kind. What the kind does not take is not looked at.
+pub fn call(
+    e: SparkleEngine,
+    kind: CallKind,
+    number: usize,
+    first: &[u8],
+    second: &[u8],
+    third: &[u8],
+    output: &mut [u8],
+) -> Called
+    ensures { λ r. ⌜ r ≡ calledOf e (callOf kind number (now (first .entry)) (now (second .entry)) (now (third .entry)) (now (output .entry))) ⌝ }
+    ensures { λ _. ⌜ now (output .exit) ≡ outputAfter e (callOf kind number (now (first .entry)) (now (second .entry)) (now (third .entry)) (now (output .entry))) (now (output .entry)) ⌝ }
+{
+    match kind {
+        CallKind::Init(d) => started(aead_cipher::init(e, d, first, second, number, third)),
+        CallKind::Aad => done(aead_cipher::process_aad_bytes(e, first)),
+        CallKind::Data => done(aead_cipher::process_bytes(e, first, output)),
+        CallKind::Final => done(aead_cipher::do_final(e, output)),
+        CallKind::Reset => Called {
+            reply: reply::count(0),
+            engine: aead_cipher::reset(e),
+        },
+        CallKind::Mac => Called {
+            reply: reply::count(tag_len(e)),
+            engine: e,
+        },
+        CallKind::Update => Called {
+            reply: reply::reply_of(aead_cipher::update_output_len(e, number)),
+            engine: e,
+        },
+        CallKind::Output => Called {
+            reply: reply::reply_of(aead_cipher::output_len(e, number)),
+            engine: e,
+        },
+    }
+}
