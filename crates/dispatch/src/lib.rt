@@ -1,11 +1,13 @@
-// One call of an engine by its kind, with its arguments as a number, three runs of bytes and an output: which of the
+// One call of an engine, given by its kind, a number, three runs of bytes and an output: which of the
 // engine's calls a kind means is decided here and nowhere else.
 ghost use mathlib.Core.Path.{_≡_};
 ghost use mathlib.Core.Bool.{cond};
 ghost use Rattle.tc_aead_cipher.specs.Variant.{paramsOf};
 ghost use Rattle.tc_aead_cipher.specs.Call.{callOf};
+ghost use Rattle.tc_aead_cipher.specs.Outcome.{outcome, startOutcome};
+ghost use Rattle.tc_aead_cipher.specs.Reply.{replyOf};
 ghost use Rattle.tc_sparkle_aead.specs.Calls.{macOf};
-ghost use Rattle.dispatch.specs.Called.{calledOf, startedOf, doneOf, outputAfter};
+ghost use Rattle.dispatch.specs.Called.{called, outputAfter};
 use tc_aead_cipher::call::CallKind;
 use tc_aead_cipher::reply;
 use tc_aead_cipher::reply::Reply;
@@ -22,7 +24,7 @@ pub struct Called {
 }
 
 fn started(s: Started) -> Called
-    ensures { λ r. ⌜ r ≡ startedOf s ⌝ }
+    ensures { λ r. ⌜ r ≡ record { reply = replyOf (startOutcome (s .answer)); engine = s .engine } ⌝ }
 {
     let answer = s.answer;
     Called {
@@ -32,7 +34,7 @@ fn started(s: Started) -> Called
 }
 
 fn done(d: Done) -> Called
-    ensures { λ r. ⌜ r ≡ doneOf d ⌝ }
+    ensures { λ r. ⌜ r ≡ record { reply = replyOf (outcome (d .answer)); engine = d .engine } ⌝ }
 {
     let answer = d.answer;
     Called {
@@ -59,7 +61,7 @@ pub fn call(
     third: &[u8],
     output: &mut [u8],
 ) -> Called
-    ensures { λ r. ⌜ r ≡ calledOf e (callOf kind number (now (first .entry)) (now (second .entry)) (now (third .entry)) (now (output .entry))) ⌝ }
+    ensures { λ r. ⌜ r ≡ called e (callOf kind number (now (first .entry)) (now (second .entry)) (now (third .entry)) (now (output .entry))) ⌝ }
     ensures { λ _. ⌜ now (output .exit) ≡ outputAfter e (callOf kind number (now (first .entry)) (now (second .entry)) (now (third .entry)) (now (output .entry))) (now (output .entry)) ⌝ }
 {
     match kind {
