@@ -27,9 +27,10 @@ fn started(s: Started) -> Called
     ensures { λ r. ⌜ r ≡ record { reply = replyOf (startOutcome (s .answer)); engine = s .engine } ⌝ }
 {
     let answer = s.answer;
+    let next = s.engine;
     Called {
         reply: reply::start_reply_of(answer),
-        engine: s.engine,
+        engine: next,
     }
 }
 
@@ -37,9 +38,10 @@ fn done(d: Done) -> Called
     ensures { λ r. ⌜ r ≡ record { reply = replyOf (outcome (d .answer)); engine = d .engine } ⌝ }
 {
     let answer = d.answer;
+    let next = d.engine;
     Called {
         reply: reply::reply_of(answer),
-        engine: d.engine,
+        engine: next,
     }
 }
 

@@ -1,0 +1,2 @@
+-- The proofs of the dispatcher.
+pub mod KindLaws

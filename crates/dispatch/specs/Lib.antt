@@ -1,0 +1,2 @@
+-- The definitions that the dispatcher's contract cites.
+pub mod Called
