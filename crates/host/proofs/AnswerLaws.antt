@@ -1,22 +1,24 @@
 -- An answer, from the pieces that are written one after the other.
-use mathlib.Core.Path.{_≡_, refl, sym, ap, _∙_}
+use mathlib.Core.Path.{_≡_, refl, sym, ap, ap₂, _∙_}
 use mathlib.Core.Bool.{Bool}
 use mathlib.Core.List.{List, [], _∷_, _++_, append-assoc}
 use Prim.Native.Nat.{ℕ, _+_, _-_, _≤_}
 use native.Mathlib.Omega.{arith}
 use lib.ListN.{length, take, drop, length-take, length-drop, length-append}
 use lib.Seq.{paste, take-at, take-all, drop-at, drop-drop, length-take-le, length-paste}
-use Rattle.tc_aead_cipher.specs.declared.phase.Direction.{Direction}
+use Rattle.tc_aead_cipher.specs.declared.call.CallKind.{CallKind}
+use Rattle.tc_aead_cipher.specs.declared.call.CallKind.the-variants.{Init, Aad, Data, Final, Reset, Mac, Update, Output}
 use Rattle.tc_sparkle_aead.specs.declared.engine.SparkleEngine.{SparkleEngine}
-use Rattle.tc_sparkle_aead.specs.declared.engine.Started.{Started}
-use Rattle.tc_sparkle_aead.specs.Calls.{init, macOf, stepsNow}
-use Rattle.tc_aead_cipher.specs.Call.{Call}
+use Rattle.tc_sparkle_aead.specs.Calls.{macOf, stepsNow}
+use Rattle.tc_aead_cipher.specs.Call.{Call, callOf}
 use Rattle.tc_sparkle_aead.specs.Sheet.{step, line}
 use Rattle.host.specs.declared.call.Head.{Head}
-use Rattle.host.specs.declared.reply.Reply.{Reply}
-use Rattle.host.specs.Reply.{replyOf}
+use Rattle.tc_aead_cipher.specs.declared.reply.Reply.{Reply}
+use Rattle.tc_aead_cipher.specs.Reply.{replyOf}
 use Rattle.host.specs.Bytes.{number}
-use Rattle.host.specs.CallList.{firstRun, secondRun, thirdRun, shown, shownCount, flag, answerHead, answerOf}
+use Rattle.host.specs.CallList.{firstRun, secondRun, thirdRun, kindAt, callIn, shown, shownCount, shownBy, shownLength, lentBy, tagged, flag, answerHead, answerOf}
+use Rattle.dispatch.specs.declared.Called.{Called}
+use Rattle.dispatch.specs.Called.{called, outputAfter}
 
 -- A run that is written behind a front.
 pub paste-next : (u rest v : List ℕ) (at n : ℕ) → length u ≡ at → length v ≡ n
@@ -86,14 +88,6 @@ module _ (h : Head) (runs : List ℕ) where
   unfolding thirdRun
   length-third fits = simp (length-take, length-drop) (omega arith)
 
--- A start's arguments.
-pub start-said : (e : SparkleEngine) (d : Direction) (h : Head) (runs : List ℕ) (s : Started)
-    → s ≡ init e d (take (h .first - 0) (drop 0 runs)) (take (h .first + h .second - h .first) (drop (h .first) runs)) (h .number)
-    (take (h .first + h .second + h .third - (h .first + h .second)) (drop (h .first + h .second) runs))
-    → s ≡ init e d (firstRun h runs) (secondRun h runs) (h .number) (thirdRun h runs)
-start-said e d h runs s q =
-    q ∙ rw (first-part h runs, second-part h runs, third-part h runs) refl
-
 -- An answer is its head and what it shows.
 pub answer-whole : (e : SparkleEngine) (c : Call) (r : Reply) (after : SparkleEngine) (x y z : List ℕ)
     → r ≡ replyOf (step e c .outcome) → after ≡ step e c .engine
@@ -133,24 +127,184 @@ module _ (out v w : List ℕ) (m : ℕ) (k : length v ≡ m) (h : 34 + m ≤ len
       )
       refl
 
--- The third run is copied behind the head, lent, and comes back as w.
-module _ (h : Head) (runs out out₁ : List ℕ) (fits : h .first + h .second + h .third ≤ length runs) (room : 34 + h .third ≤ length out) where
-  -- the run, as the code takes it
+-- ---- A call by its kind
+
+-- The part of the third run that is lent as an output.
+abbrev pub lentRun : CallKind → Head → List ℕ → List ℕ
+lentRun kind h runs = take (lentBy kind (h .third)) (drop (h .first + h .second) runs)
+
+-- a call takes its output where it has one
+call-lent : (kind : CallKind) (h : Head) (runs : List ℕ) (n : ℕ) (first second third : List ℕ)
+    → callOf kind n first second third (lentRun kind h runs) ≡ callOf kind n first second third (thirdRun h runs)
+unfolding thirdRun
+call-lent (Init d) h runs n first second third = refl
+call-lent Aad h runs n first second third = refl
+call-lent Data h runs n first second third = refl
+call-lent Final h runs n first second third = refl
+call-lent Reset h runs n first second third = refl
+call-lent Mac h runs n first second third = refl
+call-lent Update h runs n first second third = refl
+call-lent Output h runs n first second third = refl
+
+-- what is lent is shown; a tag needs its array
+pub lent-shown : (kind : CallKind) (third : ℕ) → lentBy kind third ≤ shownBy kind third
+lent-shown (Init d) third = omega arith
+lent-shown Aad third = omega arith
+lent-shown Data third = omega arith
+lent-shown Final third = omega arith
+lent-shown Reset third = omega arith
+lent-shown Mac third = omega arith
+lent-shown Update third = omega arith
+lent-shown Output third = omega arith
+
+pub lent-third : (kind : CallKind) (third : ℕ) → lentBy kind third ≤ third
+lent-third (Init d) third = omega arith
+lent-third Aad third = omega arith
+lent-third Data third = omega arith
+lent-third Final third = omega arith
+lent-third Reset third = omega arith
+lent-third Mac third = omega arith
+lent-third Update third = omega arith
+lent-third Output third = omega arith
+
+pub asked-shown : (kind : CallKind) (third : ℕ) → lentBy kind third + shownBy kind 0 ≤ shownBy kind third
+asked-shown (Init d) third = omega arith
+asked-shown Aad third = omega arith
+asked-shown Data third = omega arith
+asked-shown Final third = omega arith
+asked-shown Reset third = omega arith
+asked-shown Mac third = omega arith
+asked-shown Update third = omega arith
+asked-shown Output third = omega arith
+
+nothing : (l : List ℕ) → length l ≡ 0 → l ≡ []
+nothing [] e = refl
+nothing (x ∷ l) e = absurd (omega arith)
+
+module _ (e : SparkleEngine) (n : ℕ) (first second third lent out : List ℕ) (k : ℕ) where
+  -- what an answer shows, behind which the rest stands
+  shows : (kind : CallKind) → length lent ≡ lentBy kind k
+      → tagged kind (step e (callOf kind n first second third lent) .engine)
+      (outputAfter e (callOf kind n first second third lent) lent ++ drop (34 + lentBy kind k) out)
+      ≡ shown e (callOf kind n first second third lent) ++ drop (34 + shownBy kind k) out
+  unfolding step outputAfter shown
+  shows (Init d) none = rw (nothing lent none) refl
+  shows Aad none = rw (nothing lent none) refl
+  shows Data size = refl
+  shows Final size = refl
+  shows Reset none = rw (nothing lent none) refl
+  shows Mac none = rw (nothing lent none) (ap (λ (l : List ℕ). macOf e .bytes ++ l) (drop-drop 32 34 out))
+  shows Update none = rw (nothing lent none) refl
+  shows Output none = rw (nothing lent none) refl
+
+  shows-count : (kind : CallKind) → length lent ≡ lentBy kind k
+      → shownBy kind k ≡ shownCount (callOf kind n first second third lent)
+  unfolding shownCount
+  shows-count (Init d) size = refl
+  shows-count Aad size = refl
+  shows-count Data size = sym size
+  shows-count Final size = sym size
+  shows-count Reset size = refl
+  shows-count Mac size = refl
+  shows-count Update size = refl
+  shows-count Output size = refl
+
+-- The answer, as the code makes it: the lent part of the third run is copied behind the head, lent, and comes back as w;
+-- then the tag, where it is asked for, and the head.
+module _ (e : SparkleEngine) (h : Head) (runs out : List ℕ) (fits : h .first + h .second + h .third ≤ length runs)
+    (room : 34 + shownLength h ≤ length out) (kind : CallKind) (is : kind ≡ kindAt (h .kind)) (n : ℕ)
+    (size : n ≡ lentBy kind (h .third)) where
+  -- the part, as the code takes it
   abbrev pub copied : List ℕ
-  copied = take (h .first + h .second + h .third - (h .first + h .second)) (drop (h .first + h .second) runs)
+  copied = take (h .first + h .second + n - (h .first + h .second)) (drop (h .first + h .second) runs)
 
-  module _ (put : out₁ ≡ paste out 34 copied (length copied)) where
-    pasted : out₁ ≡ paste out 34 (thirdRun h runs) (h .third)
-    pasted = put ∙ rw (third-part h runs, length-third h runs fits) refl
+  shown-length : shownLength h ≡ shownBy kind (h .third)
+  unfolding shownLength
+  shown-length = rw is refl
 
-    pub third-lent : take (34 + h .third - 34) (drop 34 out₁) ≡ thirdRun h runs
-    third-lent = rw pasted (lent-part out (thirdRun h runs) [] (h .third) (length-third h runs fits) room)
+  pub enough : 34 + shownBy kind (h .third) ≤ length out
+  enough = omega (arith, shown-length)
 
-    pub third-back : (w : List ℕ) → drop 34 (take 34 out₁ ++ (w ++ drop (34 + h .third - 34) (drop 34 out₁))) ≡ w ++ drop (34 + h .third) out
-    third-back w = rw pasted (part-back out (thirdRun h runs) w (h .third) (length-third h runs fits) room)
+  copied-is : copied ≡ lentRun kind h runs
+  copied-is =
+      let m : h .first + h .second + n - (h .first + h .second) ≡ lentBy kind (h .third) = omega arith in
+      ap (λ (k : ℕ). take k (drop (h .first + h .second) runs)) m
 
-    pub third-room : (w : List ℕ) → 34 ≤ length (take 34 out₁ ++ (w ++ drop (34 + h .third - 34) (drop 34 out₁)))
-    third-room w =
-        let n : length out₁ ≡ length out = ap length pasted ∙ length-paste out 34 (thirdRun h runs) (h .third) (omega arith) (omega (arith, length-third h runs fits)) in
-        let a = length-take-le 34 out₁ (omega arith) in
-        simp length-append (omega (arith, a))
+  pub length-copied : length copied ≡ n
+  length-copied = simp (length-take, length-drop) (omega (arith, lent-third kind (h .third)))
+
+  pub copied-fits : 34 + n ≤ length out
+  copied-fits = omega (arith, enough, lent-shown kind (h .third))
+
+  module _ (out₁ : List ℕ) (put : out₁ ≡ paste out 34 copied (length copied)) where
+    pasted : out₁ ≡ paste out 34 copied n
+    pasted = put ∙ ap (paste out 34 copied) length-copied
+
+    pub length-pasted : length out₁ ≡ length out
+    length-pasted = ap length pasted ∙ length-paste out 34 copied n copied-fits (omega (arith, length-copied))
+
+    lent-is : take (34 + n - 34) (drop 34 out₁) ≡ lentRun kind h runs
+    lent-is = rw pasted (lent-part out copied [] n length-copied copied-fits) ∙ copied-is
+
+    -- the call, as the code makes it and as the list has it
+    abbrev pub made : Call
+    made =
+        callOf kind (h .number) (take (h .first - 0) (drop 0 runs)) (take (h .first + h .second - h .first) (drop (h .first) runs))
+        (take (h .first + h .second + h .third - (h .first + h .second)) (drop (h .first + h .second) runs))
+        (take (34 + n - 34) (drop 34 out₁))
+
+    abbrev listed : Call
+    listed = callOf kind (h .number) (firstRun h runs) (secondRun h runs) (thirdRun h runs) (lentRun kind h runs)
+
+    made-is : made ≡ listed
+    made-is = rw (first-part h runs, second-part h runs, third-part h runs, lent-is) refl
+
+    listed-is : listed ≡ callIn h runs
+    unfolding callIn
+    listed-is =
+        call-lent kind h runs (h .number) (firstRun h runs) (secondRun h runs) (thirdRun h runs)
+        ∙ ap (λ (x : CallKind). callOf x (h .number) (firstRun h runs) (secondRun h runs) (thirdRun h runs) (thirdRun h runs)) is
+
+    module _ (given : Called) (w : List ℕ) (said : given ≡ called e made)
+        (wrote : w ≡ outputAfter e made (take (34 + n - 34) (drop 34 out₁))) where
+      abbrev pub back : List ℕ
+      back = take 34 out₁ ++ (w ++ drop (34 + n - 34) (drop 34 out₁))
+
+      pub length-back : 34 + shownBy kind 0 ≤ length back
+      length-back =
+          let a = length-take-le 34 out₁ (omega (arith, length-pasted, copied-fits)) in
+          simp (length-append, length-drop)
+          (omega (arith, a, length-pasted, enough, size, asked-shown kind (h .third)))
+
+      behind : drop 34 back ≡ outputAfter e listed (lentRun kind h runs) ++ drop (34 + lentBy kind (h .third)) out
+      behind =
+          let b : drop 34 back ≡ w ++ drop (34 + n) out = rw pasted (part-back out copied w n length-copied copied-fits) in
+          b
+          ∙ ap₂ (λ (x : List ℕ) (m : ℕ). x ++ drop (34 + m) out) (wrote ∙ ap₂ (outputAfter e) made-is lent-is) size
+
+      module _ (out₃ out₄ : List ℕ) (k : ℕ) (tag : drop 34 out₃ ≡ tagged kind (given .engine) (drop 34 back))
+          (count : k ≡ shownBy kind (h .third))
+          (head : out₄ ≡ answerHead (given .reply) (macOf (given .engine) .readable) (stepsNow (given .engine)) k ++ drop 34 out₃) where
+        pub answer-is : (given .engine ≡ step e (callIn h runs) .engine)
+            × (out₄ ≡ answerOf e (callIn h runs) ++ drop (34 + shownLength h) out)
+        unfolding called
+        answer-is =
+            let l = length-lent in
+            let engine : given .engine ≡ step e listed .engine =
+            ap (λ (x : Called). x .engine) said ∙ ap (λ (c : Call). step e c .engine) made-is in
+            let reply : given .reply ≡ replyOf (step e listed .outcome) =
+            ap (λ (x : Called). x .reply) said ∙ ap (λ (c : Call). replyOf (step e c .outcome)) made-is in
+            let shown-is : drop 34 out₃ ≡ shown e listed ++ drop (34 + shownBy kind (h .third)) out =
+            tag ∙ ap₂ (tagged kind) engine behind
+            ∙ shows e (h .number) (firstRun h runs) (secondRun h runs) (thirdRun h runs) (lentRun kind h runs) out (h .third) kind l in
+            let counted : k ≡ shownCount listed =
+            count ∙ shows-count e (h .number) (firstRun h runs) (secondRun h runs) (thirdRun h runs) (lentRun kind h runs) out (h .third) kind l in
+            let whole =
+            answer-whole e listed (given .reply) (given .engine) out₄ (drop 34 out₃) (drop (34 + shownBy kind (h .third)) out)
+            reply engine (rw counted at head) shown-is in (
+              engine ∙ ap (λ (c : Call). step e c .engine) listed-is,
+              whole ∙ ap₂ (λ (c : Call) (m : ℕ). answerOf e c ++ drop (34 + m) out) listed-is (sym shown-length),
+            )
+          where
+            length-lent : length (lentRun kind h runs) ≡ lentBy kind (h .third)
+            length-lent = ap length (sym copied-is) ∙ length-copied ∙ size

@@ -6,6 +6,3 @@ mod Tests
 mod ReadLaws
 mod AnswerLaws
 mod RunLaws
-pub mod TextArray
-pub mod TextNumbers
-pub mod TextLines

@@ -18,8 +18,8 @@ use Rattle.host.specs.declared.call.Head.{Head}
 use Rattle.host.specs.declared.call.Read.{Read}
 use Rattle.host.specs.declared.call.Read.the-variants.{Malformed, Call as ReadCall}
 use Rattle.host.specs.declared.run.Stop.{Stop}
-use Rattle.host.specs.CallList.{headOf, callLength, wellFormed, readOf, callOf, shownLength, answerOf, Ran, stopped, answered, runCalls, callsIn, answersOf, runList}
-use Rattle.host.specs.Variant.{variantOf, isVariant}
+use Rattle.host.specs.CallList.{headOf, callLength, wellFormed, readOf, callIn, shownLength, answerOf, Ran, stopped, answered, runCalls, callsIn, answersOf, runList}
+use Rattle.tc_aead_cipher.specs.Variant.{variantOf, isVariant}
 
 -- ---- what was read
 
@@ -94,8 +94,8 @@ module _ (rest : List ℕ) (e : SparkleEngine) (room : ℕ) where
 
   run-call : (k : ℕ) → 0 < length rest → wellFormed rest ≡ true → leb (34 + shownLength (headOf rest)) room ≡ true
       → runCalls (suc k) rest e room
-      ≡ answered (answerOf e (callOf (headOf rest) (drop 33 rest)))
-      (runCalls k (drop (callLength (headOf rest)) rest) (step e (callOf (headOf rest) (drop 33 rest)) .engine)
+      ≡ answered (answerOf e (callIn (headOf rest) (drop 33 rest)))
+      (runCalls k (drop (callLength (headOf rest)) rest) (step e (callIn (headOf rest) (drop 33 rest)) .engine)
       (room - (34 + shownLength (headOf rest))))
   unfolding runCalls
   run-call k some w f = rw (lt-ltb 0 (length rest) some, w, f) refl
@@ -188,7 +188,7 @@ module _ (W : Ran) (list out₀ out : List ℕ) (e : SparkleEngine) (at used : �
       -- the next call is made and its answer written
       module _ (f : leb (34 + shownLength h) (length out₀ - used) ≡ true) (after : SparkleEngine) (part : List ℕ) where
         abbrev pub next : Call
-        next = callOf h (drop (at + 33) list)
+        next = callIn h (drop (at + 33) list)
 
         module _
             (engine : after ≡ step e next .engine)
@@ -219,8 +219,8 @@ module _ (W : Ran) (list out₀ out : List ℕ) (e : SparkleEngine) (at used : �
           done = length-append (take used out) (answerOf e next) ∙ ap₂ _+_ front answer-length
 
           -- the same call, as the definition has it
-          same-call : next ≡ callOf (headOf (drop at list)) (drop 33 (drop at list))
-          same-call = ap₂ callOf (found .0) (sym (drop-drop 33 at list))
+          same-call : next ≡ callIn (headOf (drop at list)) (drop 33 (drop at list))
+          same-call = ap₂ callIn (found .0) (sym (drop-drop 33 at list))
 
           unfolded : (k : ℕ) → runCalls (suc k) (drop at list) e (length out₀ - used)
               ≡ answered (answerOf e next) (runCalls k (drop (at + callLength h) list) after (length out₀ - (used + (34 + shownLength h))))
@@ -267,8 +267,8 @@ module _ (W : Ran) (list out₀ out : List ℕ) (e : SparkleEngine) (at used : �
           (last : List ℕ)
           (n : ℕ)
           (size : n ≡ shownLength h)
-          (engine : after ≡ step e (callOf h (take (length list - (at + 33)) (drop (at + 33) list))) .engine)
-          (answer : last ≡ answerOf e (callOf h (take (length list - (at + 33)) (drop (at + 33) list)))
+          (engine : after ≡ step e (callIn h (take (length list - (at + 33)) (drop (at + 33) list))) .engine)
+          (answer : last ≡ answerOf e (callIn h (take (length list - (at + 33)) (drop (at + 33) list)))
           ++ drop (34 + shownLength h) (take (length out - used) (drop used out)))
           (same : length last ≡ length (take (length out - used) (drop used out))) where
         pub walk-code : Walking W list out₀ (take used out ++ (last ++ drop (length out - used) (drop used out))) after
@@ -281,10 +281,10 @@ module _ (W : Ran) (list out₀ out : List ℕ) (e : SparkleEngine) (at used : �
             drop-of-length-le (drop used out) {i = length out - used} (simp length-drop (omega arith)) in
             let part : last ++ drop (length out - used) (drop used out) ≡ last =
             ap (λ (l : List ℕ). last ++ l) none ∙ append-nil last in
-            let engine′ : after ≡ step e (callOf h (drop (at + 33) list)) .engine =
-            engine ∙ ap (λ (l : List ℕ). step e (callOf h l) .engine) runs in
-            let answer′ : last ≡ answerOf e (callOf h (drop (at + 33) list)) ++ drop (34 + shownLength h) (drop used out) =
-            answer ∙ ap₂ (λ (l m : List ℕ). answerOf e (callOf h l) ++ drop (34 + shownLength h) m) runs lent in
+            let engine′ : after ≡ step e (callIn h (drop (at + 33) list)) .engine =
+            engine ∙ ap (λ (l : List ℕ). step e (callIn h l) .engine) runs in
+            let answer′ : last ≡ answerOf e (callIn h (drop (at + 33) list)) ++ drop (34 + shownLength h) (drop used out) =
+            answer ∙ ap₂ (λ (l m : List ℕ). answerOf e (callIn h l) ++ drop (34 + shownLength h) m) runs lent in
             rw (size, part) (walk-turn f after last engine′ answer′ (same ∙ ap length lent))
 
 -- ---- the whole list
@@ -349,7 +349,7 @@ unfolding runCalls callsIn answersOf stopped
 run-is-answers zero rest e room z = refl
 run-is-answers (suc k) rest e room z =
     let h = headOf rest in
-    let c = callOf h (drop 33 rest) in
+    let c = callIn h (drop 33 rest) in
     turn-answers (ltb 0 (length rest)) (wellFormed rest) (leb (34 + shownLength h) room) rest e c (callsIn k (drop (callLength h) rest)) _
     (run-is-answers k (drop (callLength h) rest) (step e c .engine) (room - (34 + shownLength h))) z
 
@@ -360,7 +360,7 @@ unfolding runCalls stopped
 run-reads-all zero rest e room n z = omega arith
 run-reads-all (suc k) rest e room n z =
     let h = headOf rest in
-    let c = callOf h (drop 33 rest) in
+    let c = callIn h (drop 33 rest) in
     let a = length-drop (callLength h) rest in
     let b = head-long h in
     turn-left (ltb 0 (length rest)) (wellFormed rest) (leb (34 + shownLength h) room) rest (answerOf e c) _

@@ -8,15 +8,16 @@ use Rattle.tc_aead_cipher.specs.declared.phase.Direction.the-variants.{Encrypt,
 use Rattle.tc_sparkle_aead.specs.declared.engine.SparkleEngine.{SparkleEngine}
 use Rattle.tc_sparkle_aead.specs.Engine.{newEngine}
 use Rattle.tc_sparkle_aead.specs.Calls.{macOf}
-use Rattle.tc_aead_cipher.specs.Call.{Call}
+use Rattle.tc_aead_cipher.specs.declared.call.CallKind.{CallKind}
+use Rattle.tc_aead_cipher.specs.Variant.{variantOf, isVariant}
+use Rattle.tc_aead_cipher.specs.Call.{Call, callOf}
+use Rattle.tc_aead_cipher.specs.Reply.{replyOf}
+use Rattle.tc_aead_cipher.specs.declared.reply.Reply.{Reply}
 use Rattle.tc_sparkle_aead.specs.Sheet.{step, line}
 use Rattle.host.specs.declared.call.Head.{Head}
 use Rattle.host.specs.declared.call.Read.{Read}
 use Rattle.host.specs.declared.call.Read.the-variants.{Malformed, Call as ReadCall}
-use Rattle.host.specs.declared.reply.Reply.{Reply}
-use Rattle.host.specs.Reply.{replyOf}
 use Rattle.host.specs.Bytes.{numberAt, number}
-use Rattle.host.specs.Variant.{variantOf, isVariant}
 
 -- ---- A call in a list
 
@@ -55,16 +56,21 @@ secondRun h runs = take (h .second) (drop (h .first) runs)
 unfoldable pub thirdRun : Head → List ℕ → List ℕ
 thirdRun h runs = take (h .third) (drop (h .first + h .second) runs)
 
--- The call of a head and its runs; kinds 1 to 9.
-unfoldable pub callOf : Head → List ℕ → Call
-callOf h runs =
-    cond (eqb (h .kind) 1) (Call.Init Encrypt (firstRun h runs) (secondRun h runs) (h .number) (thirdRun h runs))
-    (cond (eqb (h .kind) 2) (Call.Init Decrypt (firstRun h runs) (secondRun h runs) (h .number) (thirdRun h runs))
-    (cond (eqb (h .kind) 3) (Call.Aad (firstRun h runs))
-    (cond (eqb (h .kind) 4) (Call.Data (firstRun h runs) (thirdRun h runs))
-    (cond (eqb (h .kind) 5) (Call.Final (thirdRun h runs))
-    (cond (eqb (h .kind) 6) Call.Reset
-    (cond (eqb (h .kind) 7) Call.Mac (cond (eqb (h .kind) 8) (Call.Update (h .number)) (Call.Output (h .number)))))))))
+-- The kind of call that a number means; kinds 1 to 9.
+unfoldable pub kindAt : ℕ → CallKind
+kindAt n =
+    cond (eqb n 1) (CallKind.Init Encrypt)
+    (cond (eqb n 2) (CallKind.Init Decrypt)
+    (cond (eqb n 3) CallKind.Aad
+    (cond (eqb n 4) CallKind.Data
+    (cond (eqb n 5) CallKind.Final
+    (cond (eqb n 6) CallKind.Reset
+    (cond (eqb n 7) CallKind.Mac (cond (eqb n 8) CallKind.Update CallKind.Output)))))))
+
+-- The call of a head and its runs: the third is a start's header, and the output of a data call and of an end.
+unfoldable pub callIn : Head → List ℕ → Call
+callIn h runs =
+    callOf (kindAt (h .kind)) (h .number) (firstRun h runs) (secondRun h runs) (thirdRun h runs) (thirdRun h runs)
 
 -- ---- An answer
 
@@ -90,9 +96,40 @@ shownCount Call.Mac = 32
 shownCount (Call.Update n) = 0
 shownCount (Call.Output n) = 0
 
+abbrev pub shownBy : CallKind → (third : ℕ) → ℕ
+shownBy (CallKind.Init d) third = 0
+shownBy CallKind.Aad third = 0
+shownBy CallKind.Data third = third
+shownBy CallKind.Final third = third
+shownBy CallKind.Reset third = 0
+shownBy CallKind.Mac third = 32
+shownBy CallKind.Update third = 0
+shownBy CallKind.Output third = 0
+
 unfoldable pub shownLength : Head → ℕ
-shownLength h =
-    cond (eqb (h .kind) 4) (h .third) (cond (eqb (h .kind) 5) (h .third) (cond (eqb (h .kind) 7) 32 0))
+shownLength h = shownBy (kindAt (h .kind)) (h .third)
+
+-- How many bytes of the third run are lent as an output.
+abbrev pub lentBy : CallKind → (third : ℕ) → ℕ
+lentBy (CallKind.Init d) third = 0
+lentBy CallKind.Aad third = 0
+lentBy CallKind.Data third = third
+lentBy CallKind.Final third = third
+lentBy CallKind.Reset third = 0
+lentBy CallKind.Mac third = 0
+lentBy CallKind.Update third = 0
+lentBy CallKind.Output third = 0
+
+-- What stands behind the head of an answer, `behind`, once the tag of an engine is written there, where it is asked for.
+abbrev pub tagged : CallKind → SparkleEngine → (behind : List ℕ) → List ℕ
+tagged (CallKind.Init d) e behind = behind
+tagged CallKind.Aad e behind = behind
+tagged CallKind.Data e behind = behind
+tagged CallKind.Final e behind = behind
+tagged CallKind.Reset e behind = behind
+tagged CallKind.Mac e behind = macOf e .bytes ++ drop 32 behind
+tagged CallKind.Update e behind = behind
+tagged CallKind.Output e behind = behind
 
 unfoldable pub flag : Bool → ℕ
 flag b = cond b 1 0
@@ -128,7 +165,7 @@ unfoldable pub runCalls : ℕ → List ℕ → SparkleEngine → ℕ → Ran
 runCalls zero rest e room = stopped 0 rest
 runCalls (suc k) rest e room =
     let h = headOf rest in
-    let c = callOf h (drop 33 rest) in
+    let c = callIn h (drop 33 rest) in
     cond (ltb 0 (length rest))
     (cond (wellFormed rest)
     (cond (leb (34 + shownLength h) room)
@@ -143,7 +180,7 @@ unfoldable pub callsIn : ℕ → List ℕ → List Call
 callsIn zero rest = []
 callsIn (suc k) rest =
     cond (ltb 0 (length rest))
-    (cond (wellFormed rest) (callOf (headOf rest) (drop 33 rest) ∷ callsIn k (drop (callLength (headOf rest)) rest)) []) []
+    (cond (wellFormed rest) (callIn (headOf rest) (drop 33 rest) ∷ callsIn k (drop (callLength (headOf rest)) rest)) []) []
 
 unfoldable pub answersOf : SparkleEngine → List Call → List ℕ
 answersOf e [] = []

@@ -1,23 +1,17 @@
 // A call of a list (docs/HOST.md): its head, and its answer.
 ghost use mathlib.Core.Path.{_≡_};
 ghost use mathlib.Core.List.{_++_};
-ghost use mathlib.Core.Bool.{cond};
 ghost use Prim.Native.Nat.{_+_, _≤_};
 ghost use lib.ListN.{length, drop};
 ghost use lib.Dec.{leb};
-ghost use Rattle.tc_aead_cipher.specs.Variant.{paramsOf};
 ghost use Rattle.tc_sparkle_aead.specs.Calls.{macOf, stepsNow};
-ghost use Rattle.tc_aead_cipher.specs.Call.{Call};
-ghost use Rattle.tc_aead_cipher.specs.Outcome.{Outcome};
 ghost use Rattle.tc_sparkle_aead.specs.Sheet.{step};
-ghost use Rattle.host.specs.Reply.{replyOf};
-ghost use Rattle.host.specs.CallList.{headOf, readOf, firstRun, secondRun, thirdRun, callOf, shownLength, flag, answerHead, answerOf};
+ghost use Rattle.host.specs.CallList.{headOf, readOf, kindAt, callIn, shownBy, shownLength, lentBy, tagged, flag, answerHead, answerOf};
 use super::bytes;
-use super::reply;
-use super::reply::Reply;
+use tc_aead_cipher::call::CallKind;
 use tc_aead_cipher::phase::Direction;
+use tc_aead_cipher::reply::Reply;
 use tc_sparkle_aead::aead_cipher;
-use tc_sparkle_aead::engine;
 use tc_sparkle_aead::engine::SparkleEngine;
 
 // The head of a call: its kind, its number, and the lengths of its three runs of bytes.
@@ -81,26 +75,58 @@ pub(crate) fn read_call(rest: &[u8]) -> Read
     }
 }
 
+// The kind of call that a number means; 9 and above, an output_len.
+fn kind_at(n: u8) -> CallKind
+    ensures { λ r. ⌜ r ≡ kindAt n ⌝ }
+{
+    match n {
+        1 => CallKind::Init(Direction::Encrypt),
+        2 => CallKind::Init(Direction::Decrypt),
+        3 => CallKind::Aad,
+        4 => CallKind::Data,
+        5 => CallKind::Final,
+        6 => CallKind::Reset,
+        7 => CallKind::Mac,
+        8 => CallKind::Update,
+        _ => CallKind::Output,
+    }
+}
+
+fn shown_by(kind: CallKind, third: usize) -> usize
+    ensures { λ r. ⌜ r ≡ shownBy kind third ⌝ }
+{
+    match kind {
+        CallKind::Init(_) => 0,
+        CallKind::Aad => 0,
+        CallKind::Data => third,
+        CallKind::Final => third,
+        CallKind::Reset => 0,
+        CallKind::Mac => 32,
+        CallKind::Update => 0,
+        CallKind::Output => 0,
+    }
+}
+
 // How many bytes stand behind the head of a call's answer.
 pub(crate) fn shown_len(h: Head) -> usize
     ensures { λ r. ⌜ r ≡ shownLength h ⌝ }
 {
-    let kind = h.kind;
-    match kind {
-        4 => h.third,
-        5 => h.third,
-        7 => 32,
-        _ => 0,
-    }
+    shown_by(kind_at(h.kind), h.third)
 }
 
-fn count(n: usize) -> Reply
-    ensures { λ r. ⌜ r ≡ replyOf (Outcome.ok n) ⌝ }
+// How many bytes of the third run are lent as an output.
+fn lent_len(kind: CallKind, third: usize) -> usize
+    ensures { λ r. ⌜ r ≡ lentBy kind third ⌝ }
 {
-    Reply {
-        number: 0,
-        first: n,
-        second: 0,
+    match kind {
+        CallKind::Init(_) => 0,
+        CallKind::Aad => 0,
+        CallKind::Data => third,
+        CallKind::Final => third,
+        CallKind::Reset => 0,
+        CallKind::Mac => 0,
+        CallKind::Update => 0,
+        CallKind::Output => 0,
     }
 }
 
@@ -124,85 +150,6 @@ fn put_head(out: &mut [u8], r: Reply, e: SparkleEngine, n: usize)
     bytes::put_number(out, 26, n as u64);
 }
 
-fn init(e: SparkleEngine, d: Direction, h: Head, runs: &[u8], out: &mut [u8]) -> SparkleEngine
-    requires { ⌜ (h .first + h .second + h .third ≤ length (now runs)) × (34 ≤ length (now out)) ⌝ }
-    ensures { λ r. ⌜ r ≡ step e (Call.Init d (firstRun h (now (runs .entry))) (secondRun h (now (runs .entry))) (h .number) (thirdRun h (now (runs .entry)))) .engine ⌝ }
-    ensures { λ _. ⌜ now (out .exit) ≡ answerOf e (Call.Init d (firstRun h (now (runs .entry))) (secondRun h (now (runs .entry))) (h .number) (thirdRun h (now (runs .entry)))) ++ drop 34 (now (out .entry)) ⌝ }
-{
-    let a = h.first;
-    let b = a + h.second;
-    let c = b + h.third;
-    let s = aead_cipher::init(e, d, &runs[0..a], &runs[a..b], h.number, &runs[b..c]);
-    let r = s.answer;
-    let next = s.engine;
-    put_head(out, reply::start_reply_of(r), next, 0);
-    next
-}
-
-fn process_aad_bytes(e: SparkleEngine, h: Head, runs: &[u8], out: &mut [u8]) -> SparkleEngine
-    requires { ⌜ (h .first ≤ length (now runs)) × (34 ≤ length (now out)) ⌝ }
-    ensures { λ r. ⌜ r ≡ step e (Call.Aad (firstRun h (now (runs .entry)))) .engine ⌝ }
-    ensures { λ _. ⌜ now (out .exit) ≡ answerOf e (Call.Aad (firstRun h (now (runs .entry)))) ++ drop 34 (now (out .entry)) ⌝ }
-{
-    let a = h.first;
-    let d = aead_cipher::process_aad_bytes(e, &runs[0..a]);
-    let r = d.answer;
-    let next = d.engine;
-    put_head(out, reply::reply_of(r), next, 0);
-    next
-}
-
-fn process_bytes(e: SparkleEngine, h: Head, runs: &[u8], out: &mut [u8]) -> SparkleEngine
-    requires { ⌜ (h .first + h .second + h .third ≤ length (now runs)) × (34 + h .third ≤ length (now out)) ⌝ }
-    ensures { λ r. ⌜ r ≡ step e (Call.Data (firstRun h (now (runs .entry))) (thirdRun h (now (runs .entry)))) .engine ⌝ }
-    ensures { λ _. ⌜ now (out .exit) ≡ answerOf e (Call.Data (firstRun h (now (runs .entry))) (thirdRun h (now (runs .entry)))) ++ drop (34 + h .third) (now (out .entry)) ⌝ }
-{
-    let a = h.first;
-    let b = a + h.second;
-    let c = b + h.third;
-    let end = 34 + h.third;
-    bytes::put(out, 34, &runs[b..c]);
-    let d = aead_cipher::process_bytes(e, &runs[0..a], &mut out[34..end]);
-    let r = d.answer;
-    let next = d.engine;
-    put_head(out, reply::reply_of(r), next, h.third);
-    next
-}
-
-fn do_final(e: SparkleEngine, h: Head, runs: &[u8], out: &mut [u8]) -> SparkleEngine
-    requires { ⌜ (h .first + h .second + h .third ≤ length (now runs)) × (34 + h .third ≤ length (now out)) ⌝ }
-    ensures { λ r. ⌜ r ≡ step e (Call.Final (thirdRun h (now (runs .entry)))) .engine ⌝ }
-    ensures { λ _. ⌜ now (out .exit) ≡ answerOf e (Call.Final (thirdRun h (now (runs .entry)))) ++ drop (34 + h .third) (now (out .entry)) ⌝ }
-{
-    let b = h.first + h.second;
-    let c = b + h.third;
-    let end = 34 + h.third;
-    bytes::put(out, 34, &runs[b..c]);
-    let d = aead_cipher::do_final(e, &mut out[34..end]);
-    let r = d.answer;
-    let next = d.engine;
-    put_head(out, reply::reply_of(r), next, h.third);
-    next
-}
-
-fn reset(e: SparkleEngine, out: &mut [u8]) -> SparkleEngine
-    requires { ⌜ 34 ≤ length (now out) ⌝ }
-    ensures { λ r. ⌜ r ≡ step e Call.Reset .engine ⌝ }
-    ensures { λ _. ⌜ now (out .exit) ≡ answerOf e Call.Reset ++ drop 34 (now (out .entry)) ⌝ }
-{
-    let next = aead_cipher::reset(e);
-    put_head(out, count(0), next, 0);
-    next
-}
-
-// The bytes of the tag that can be read, or 0.
-fn tag_len(e: SparkleEngine) -> usize
-    ensures { λ r. ⌜ r ≡ cond (macOf e .readable) (paramsOf (e .variant) .key) 0 ⌝ }
-{
-    let m = aead_cipher::mac(e);
-    if m.readable { engine::tag_bytes(e) } else { 0 }
-}
-
 // Writes a tag's array behind the head of an answer.
 fn put_tag(out: &mut [u8], tag: [u8; 32])
     requires { ⌜ 66 ≤ length (now out) ⌝ }
@@ -211,57 +158,48 @@ fn put_tag(out: &mut [u8], tag: [u8; 32])
     bytes::put(out, 34, &tag);
 }
 
-fn mac(e: SparkleEngine, out: &mut [u8]) -> SparkleEngine
-    requires { ⌜ 66 ≤ length (now out) ⌝ }
-    ensures { λ r. ⌜ r ≡ step e Call.Mac .engine ⌝ }
-    ensures { λ _. ⌜ now (out .exit) ≡ answerOf e Call.Mac ++ drop 66 (now (out .entry)) ⌝ }
+// The same, where the call asks for the tag.
+fn put_asked(kind: CallKind, e: SparkleEngine, out: &mut [u8])
+    requires { ⌜ 34 + shownBy kind 0 ≤ length (now out) ⌝ }
+    ensures { λ _. ⌜ drop 34 (now (out .exit)) ≡ tagged kind e (drop 34 (now (out .entry))) ⌝ }
 {
-    let m = aead_cipher::mac(e);
-    let tag = m.bytes;
-    put_tag(out, tag);
-    put_head(out, count(tag_len(e)), e, 32);
-    e
+    match kind {
+        CallKind::Mac => {
+            let m = aead_cipher::mac(e);
+            let tag = m.bytes;
+            put_tag(out, tag);
+        }
+        _ => {}
+    }
 }
 
-fn update_output_len(e: SparkleEngine, n: usize, out: &mut [u8]) -> SparkleEngine
-    requires { ⌜ 34 ≤ length (now out) ⌝ }
-    ensures { λ r. ⌜ r ≡ step e (Call.Update n) .engine ⌝ }
-    ensures { λ _. ⌜ now (out .exit) ≡ answerOf e (Call.Update n) ++ drop 34 (now (out .entry)) ⌝ }
-{
-    put_head(
-        out,
-        reply::reply_of(aead_cipher::update_output_len(e, n)),
-        e,
-        0,
-    );
-    e
-}
-
-fn output_len(e: SparkleEngine, n: usize, out: &mut [u8]) -> SparkleEngine
-    requires { ⌜ 34 ≤ length (now out) ⌝ }
-    ensures { λ r. ⌜ r ≡ step e (Call.Output n) .engine ⌝ }
-    ensures { λ _. ⌜ now (out .exit) ≡ answerOf e (Call.Output n) ++ drop 34 (now (out .entry)) ⌝ }
-{
-    put_head(out, reply::reply_of(aead_cipher::output_len(e, n)), e, 0);
-    e
-}
-
-// Makes a call and writes its answer to the front of `out`.
+// Makes a call and writes its answer to the front of `out`. What is lent as an output stands behind
+// the head.
 pub(crate) fn answer(e: SparkleEngine, h: Head, runs: &[u8], out: &mut [u8]) -> SparkleEngine
     requires { ⌜ (h .first + h .second + h .third ≤ length (now runs)) × (34 + shownLength h ≤ length (now out)) ⌝ }
-    ensures { λ r. ⌜ r ≡ step e (callOf h (now (runs .entry))) .engine ⌝ }
-    ensures { λ _. ⌜ now (out .exit) ≡ answerOf e (callOf h (now (runs .entry))) ++ drop (34 + shownLength h) (now (out .entry)) ⌝ }
+    ensures { λ r. ⌜ r ≡ step e (callIn h (now (runs .entry))) .engine ⌝ }
+    ensures { λ _. ⌜ now (out .exit) ≡ answerOf e (callIn h (now (runs .entry))) ++ drop (34 + shownLength h) (now (out .entry)) ⌝ }
 {
-    let kind = h.kind;
-    match kind {
-        1 => init(e, Direction::Encrypt, h, runs, out),
-        2 => init(e, Direction::Decrypt, h, runs, out),
-        3 => process_aad_bytes(e, h, runs, out),
-        4 => process_bytes(e, h, runs, out),
-        5 => do_final(e, h, runs, out),
-        6 => reset(e, out),
-        7 => mac(e, out),
-        8 => update_output_len(e, h.number, out),
-        _ => output_len(e, h.number, out),
-    }
+    let kind = kind_at(h.kind);
+    let n = lent_len(kind, h.third);
+    let a = h.first;
+    let b = a + h.second;
+    let c = b + h.third;
+    let lent = b + n;
+    let end = 34 + n;
+    bytes::put(out, 34, &runs[b..lent]);
+    let d = dispatch::call(
+        e,
+        kind,
+        h.number,
+        &runs[0..a],
+        &runs[a..b],
+        &runs[b..c],
+        &mut out[34..end],
+    );
+    let r = d.reply;
+    let next = d.engine;
+    put_asked(kind, next, out);
+    put_head(out, r, next, shown_by(kind, h.third));
+    next
 }

@@ -8,10 +8,7 @@ ghost use Rattle.host.specs.CallList.{runList};
 
 mod bytes;
 mod call;
-pub mod reply;
-mod run;
-pub mod text;
-pub mod variant;
+pub mod run;
 
 // Runs a call list from one slice and writes the answers to another.
 #[no_mangle]

@@ -7,14 +7,14 @@ ghost use Rattle.tc_sparkle_aead.specs.Message.{written};
 ghost use Rattle.host.specs.CallList.{runCalls, runList};
 use super::call;
 use super::call::Read;
-use super::variant;
+use tc_aead_cipher::variant;
 use tc_sparkle_aead::engine;
 use tc_sparkle_aead::engine::SparkleEngine;
 
 // Where a run stopped: its return code and the place in the list.
 pub struct Stop {
-    pub(crate) code: u8,
-    pub(crate) place: usize,
+    pub code: u8,
+    pub place: usize,
 }
 
 // Whether an answer with n bytes behind its head has room.
@@ -62,7 +62,7 @@ fn run_calls(first: SparkleEngine, list: &[u8], answers: &mut [u8]) -> Stop
 }
 
 // Runs a list and writes its answers.
-pub(crate) fn run_list(list: &[u8], answers: &mut [u8]) -> Stop
+pub fn run_list(list: &[u8], answers: &mut [u8]) -> Stop
     ensures { λ r. ⌜ r ≡ record { code = runList (now (list .entry)) (length (now (answers .entry))) .code; place = length (now (list .entry)) - runList (now (list .entry)) (length (now (answers .entry))) .left } ⌝ }
     ensures { λ _. ⌜ now (answers .exit) ≡ written (runList (now (list .entry)) (length (now (answers .entry))) .answers) (now (answers .entry)) ⌝ }
 {
@@ -71,7 +71,7 @@ pub(crate) fn run_list(list: &[u8], answers: &mut [u8]) -> Stop
     }
     let v = list[0];
     if variant::is_variant(v) {
-        run_calls(engine::new(variant::variant(v)), list, answers)
+        run_calls(engine::new(variant::variant_of(v)), list, answers)
     } else {
         Stop { code: 21, place: 0 }
     }

@@ -23,8 +23,8 @@ shared-slice-read-v c = search needs
 is-variant-requires : tie.Need-is-variant-requires
 is-variant-requires c κs = search needs
 
-variant-requires : tie.Need-variant-requires
-variant-requires c κs = search needs
+variant-of-requires : tie.Need-variant-of-requires
+variant-of-requires c κs = search needs
 
 new-requires : tie.Need-new-requires
 new-requires c κs = search needs
@@ -39,7 +39,7 @@ returns-2 : tie.Need-returns-2
 returns-2 c =
     let a = c .before .before .before .before .before .before .before .before .before .before .before .before .args in
     let same =
-    list-run (a .list .now) (length (a .answers .now)) (c .before .before .before .before .before .variant .result) (c .before .before .before .before .new .result) (sym (c .before .before .before .before .before .before .before .is-variant .ensures) ∙ c .before .before .before .before .before .before .if2 .taken) (c .before .before .before .before .before .variant .ensures) (c .before .before .before .before .new .ensures) in (
+    list-run (a .list .now) (length (a .answers .now)) (c .before .before .before .before .before .variant-of .result) (c .before .before .before .before .new .result) (sym (c .before .before .before .before .before .before .before .is-variant .ensures) ∙ c .before .before .before .before .before .before .if2 .taken) (c .before .before .before .before .before .variant-of .ensures) (c .before .before .before .before .new .ensures) in (
       c .before .before .run-calls .ensures .0 ∙ ap (stopOf (length (a .list .now))) same,
       c .before .before .run-calls .ensures .1 ∙ ap (λ (r : Ran). written (r .answers) (a .answers .now)) same,
     )
@@ -55,7 +55,7 @@ run-list-spec =
     returns
     shared-slice-read-v
     is-variant-requires
-    variant-requires
+    variant-of-requires
     new-requires
     run-calls-requires
     same-length
