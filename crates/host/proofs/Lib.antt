@@ -1,7 +1,6 @@
 -- The laws that the proofs of `host` cite.
 -- Tests: tests of numbers that come out alike.
 -- ReadLaws, AnswerLaws, RunLaws: a call that is read, an answer that is written, the run of a list.
--- TextArray, TextNumbers, TextLines: texts in their array, numbers in decimal, lines that fit.
 mod Tests
 mod ReadLaws
 mod AnswerLaws

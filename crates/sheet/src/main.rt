@@ -4,13 +4,13 @@
 mod lent;
 
 use entry_calls::aead_params_ref;
-use host::reply;
-use host::reply::Reply;
-use host::text;
-use host::text::CallName;
-use host::text::Text;
 use libc::STDOUT_FILENO;
+use sheet_text::text;
+use sheet_text::text::Text;
+use tc_aead_cipher::call::CallKind;
 use tc_aead_cipher::phase::Direction;
+use tc_aead_cipher::reply;
+use tc_aead_cipher::reply::Reply;
 use tc_aead_cipher::variant::SparkleVariant;
 use tc_sparkle_aead::engine;
 use tc_sparkle_aead::engine::Done;
@@ -27,15 +27,15 @@ fn show(t: Text) {
 }
 
 // The line of a call, from its answer and the engine afterwards.
-fn show_line(call: CallName, answer: Reply, e: SparkleEngine) {
+fn show_line(kind: CallKind, answer: Reply, e: SparkleEngine) {
     let m = lent::mac(e);
-    show(text::line(call, answer, lent::steps(e), m.readable));
+    show(text::line(kind, answer, lent::steps(e), m.readable));
 }
 
-fn shown(call: CallName, d: Done) -> SparkleEngine {
+fn shown(kind: CallKind, d: Done) -> SparkleEngine {
     let r = d.answer;
     let e = d.engine;
-    show_line(call, reply::reply_of(r), e);
+    show_line(kind, reply::reply_of(r), e);
     e
 }
 
@@ -45,20 +45,24 @@ fn start(e: SparkleEngine) -> SparkleEngine {
     let s = aead_params_ref::init_owned(e, Direction::Encrypt, &zeros, &zeros, 16, b"");
     let r = s.answer;
     let next = s.engine;
-    show_line(CallName::Init, reply::start_reply_of(r), next);
+    show_line(
+        CallKind::Init(Direction::Encrypt),
+        reply::start_reply_of(r),
+        next,
+    );
     next
 }
 
 fn header(e: SparkleEngine, input: &[u8]) -> SparkleEngine {
-    shown(CallName::Aad, lent::process_aad_bytes(e, input))
+    shown(CallKind::Aad, lent::process_aad_bytes(e, input))
 }
 
 fn data(e: SparkleEngine, input: &[u8], output: &mut [u8]) -> SparkleEngine {
-    shown(CallName::Data, lent::process_bytes(e, input, output))
+    shown(CallKind::Data, lent::process_bytes(e, input, output))
 }
 
 fn end(e: SparkleEngine, output: &mut [u8]) -> SparkleEngine {
-    shown(CallName::Final, lent::do_final(e, output))
+    shown(CallKind::Final, lent::do_final(e, output))
 }
 
 fn main() {

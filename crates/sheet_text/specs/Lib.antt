@@ -1,0 +1,2 @@
+-- The texts that the contracts of a sheet's title and lines cite.
+pub mod Text
