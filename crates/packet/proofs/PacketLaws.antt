@@ -20,14 +20,14 @@ use Rattle.tc_aead_cipher.specs.declared.aead_init_error.AeadInitResult.{AeadIn
 use Rattle.tc_sparkle_aead.specs.declared.engine.SparkleEngine.{SparkleEngine}
 use Rattle.tc_sparkle_aead.specs.declared.engine.Done.{Done}
 use Rattle.tc_sparkle_aead.specs.declared.engine.Started.{Started}
-use Rattle.tc_sparkle_aead.specs.Engine.{newEngine}
-use Rattle.tc_aead_cipher.specs.Variant.{paramsOf}
+use Rattle.tc_sparkle_aead.specs.Message.{verifies}
+use Rattle.tc_sparkle_aead.specs.Engine.{currentKey, newEngine}
+use Rattle.tc_aead_cipher.specs.Variant.{paramsOf, variantOf, isVariant}
 use Rattle.tc_aead_cipher.specs.Checks.{opening, then, room, whole, phaseCheck, updateLen, totalLen, dataCheck, endCheck}
 use Rattle.tc_aead_cipher.specs.Checks.{heldData}
 use Rattle.tc_sparkle_aead.specs.Calls.{beginData, sealFinal, openFinalBy, openFinal, dataBy, dataAnswer, finalBy, finalAnswer, init, processBytes, processBytesOut, doFinal, doFinalOut}
 use Rattle.tc_aead_cipher.specs.Outcome.{Outcome, outcome, startOutcome}
 use Rattle.tc_sparkle_aead.specs.Sheet.{step}
-use Rattle.host.specs.Variant.{variantOf, isVariant}
 use Rattle.packet.specs.Packet.{endBy, endPacket, dataPacket, startBy, packetOf}
 use Rattle.packet.specs.Packet.{dataBy as packetBy}
 
@@ -117,7 +117,9 @@ end-count e out n q =
     by : (k : AeadResult) → finalBy k e .answer ≡ Ok n → k ≡ Ok n
     by (Err x) w = w
     by (Ok m) w =
-        ap Ok (ended-count (opening (e .current .phase)) (right (beginData e)) (beginData e) m n w)
+        let p = paramsOf (beginData e .variant) in
+        let right = verifies p (currentKey p (beginData e .pair)) (beginData e .current) in
+        ap Ok (ended-count (opening (e .current .phase)) right (beginData e) m n w)
 
 -- ---- the end
 
@@ -180,6 +182,6 @@ start-packet v d key nonce header input out s size variant new is var n k done r
     rw (is, ← var, ← n, ← k, ← done, q) refl
 
 pub no-variant : (v : ℕ) (d : Direction) (key nonce header input out : List ℕ) → isVariant v ≡ false
-    → packetOf v d key nonce header input out ≡ record { reply = record { number = 23; first = 0; second = 0 }; out = out }
+    → packetOf v d key nonce header input out ≡ record { reply = record { number = 23; values = 0; first = 0; second = 0 }; out = out }
 unfolding packetOf
 no-variant v d key nonce header input out is = rw is refl

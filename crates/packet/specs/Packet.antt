@@ -1,7 +1,7 @@
 -- A whole packet at once: init on a new engine, one data call and the end.
 use Prim.Native.Nat.{ℕ, _+_}
 use mathlib.Core.Bool.{cond}
-use mathlib.Core.List.{List, _++_}
+use mathlib.Core.List.{List, [], _∷_, _++_}
 use lib.ListN.{take, drop}
 use Rattle.tc_aead_cipher.specs.declared.phase.Direction.{Direction}
 use Rattle.tc_sparkle_aead.specs.declared.engine.SparkleEngine.{SparkleEngine}
@@ -10,9 +10,9 @@ use Rattle.tc_sparkle_aead.specs.Engine.{newEngine}
 use Rattle.tc_aead_cipher.specs.Call.{Call}
 use Rattle.tc_aead_cipher.specs.Outcome.{Outcome}
 use Rattle.tc_sparkle_aead.specs.Sheet.{step}
-use Rattle.host.specs.declared.reply.Reply.{Reply}
-use Rattle.host.specs.Reply.{replyOf}
-use Rattle.host.specs.Variant.{variantOf, isVariant}
+use Rattle.tc_aead_cipher.specs.declared.reply.Reply.{Reply}
+use Rattle.tc_aead_cipher.specs.Reply.{replyOf}
+use Rattle.tc_aead_cipher.specs.Variant.{variantOf, isVariant}
 
 -- The reply of the first call that is refused, or of the end; and the output.
 pub record PacketResult : Type 0 where
@@ -47,4 +47,4 @@ packetOf v d key nonce header input out =
     let p = paramsOf (variantOf v) in
     let l = step (newEngine (variantOf v)) (Call.Init d key nonce (p .key) header) in
     cond (isVariant v) (startBy (l .outcome) (l .engine) input out)
-    (record { reply = record { number = 23; first = 0; second = 0 }; out = out })
+    (record { reply = replyOf (Outcome.no (23 ∷ [])); out = out })

@@ -3,12 +3,12 @@ ghost use mathlib.Core.Path.{_≡_};
 ghost use Prim.Native.Nat.{_≤_};
 ghost use lib.ListN.{length};
 ghost use Rattle.packet.specs.Packet.{endPacket, dataPacket, packetOf};
-use host::reply;
-use host::reply::Reply;
-use host::variant;
 use tc_aead_cipher::aead_error::AeadResult;
 use tc_aead_cipher::aead_init_error::AeadInitResult;
 use tc_aead_cipher::phase::Direction;
+use tc_aead_cipher::reply;
+use tc_aead_cipher::reply::Reply;
+use tc_aead_cipher::variant;
 use tc_sparkle_aead::aead_cipher;
 use tc_sparkle_aead::engine;
 use tc_sparkle_aead::engine::SparkleEngine;
@@ -22,11 +22,7 @@ fn end(e: SparkleEngine, n: usize, out: &mut [u8]) -> Reply
     let d = aead_cipher::do_final(e, &mut out[n..]);
     let r = d.answer;
     match r {
-        AeadResult::Ok(m) => Reply {
-            number: 0,
-            first: n + m,
-            second: 0,
-        },
+        AeadResult::Ok(m) => reply::count(n + m),
         AeadResult::Err(x) => reply::reply_of(AeadResult::Err(x)),
     }
 }
@@ -61,11 +57,12 @@ pub(crate) fn packet(
     if !variant::is_variant(v) {
         return Reply {
             number: 23,
+            values: 0,
             first: 0,
             second: 0,
         };
     }
-    let variant = variant::variant(v);
+    let variant = variant::variant_of(v);
     let s = aead_cipher::init(
         engine::new(variant),
         d,

@@ -1,6 +1,6 @@
 -- The export: the reply's number is returned, its values go out by `first` and `second`.
 use mathlib.Core.Path.{ap}
-use Rattle.host.specs.declared.reply.Reply.{Reply}
+use Rattle.tc_aead_cipher.specs.declared.reply.Reply.{Reply}
 use borrow.Author.Needs.{needs}
 use Rattle.packet.proofs.schwaemm_open.Statement.{statement}
 use Rattle.packet.proofs.schwaemm_open.Tie as tie

@@ -47,7 +47,7 @@ part-call-end-4 c =
       arith,
       lent-fits x,
       length-pasted (s .args .e) (s .args .h) (s .args .runs .now) (s .args .out .now) (s .pre .0) (s .pre .1) _
-    (x .before .kind-at .ensures) _ (x .lent-len .ensures) (put .last .0) (put .ensures),
+          (x .before .kind-at .ensures) _ (x .lent-len .ensures) (put .last .0) (put .ensures),
     )
 
 put-asked-requires : tie.Need-put-asked-requires
@@ -68,7 +68,7 @@ put-head-requires c κs =
     omega (
       arith,
       length-back (s .args .e) (s .args .h) (s .args .runs .now) (s .args .out .now) (s .pre .0) (s .pre .1) _
-    (x .before .kind-at .ensures) _ (x .lent-len .ensures) (put .last .0) (put .ensures) (made .result) _ (made .ensures .0) (made .ensures .1),
+          (x .before .kind-at .ensures) _ (x .lent-len .ensures) (put .last .0) (put .ensures) (made .result) _ (made .ensures .0) (made .ensures .1),
       c .before .before .before .before .put-asked .kept,
     )
 

@@ -22,12 +22,15 @@ do-final-requires c κs = search needs
 enum-known-r : tie.Need-enum-known-r
 enum-known-r c = search needs
 
-add-t13 : tie.Need-add-t13
-add-t13 c =
+add-count : tie.Need-add-count
+add-count c =
     let s = c .before .before .before .before .before .before .before .before in
     let done = c .before .before .before .before .before .do-final in
     let bound = end-bound (s .args .n) (s .args .e) (s .args .out .now) _ (done .result) (done .ensures .0) (done .ensures .1) _ (c .before .r .given .1) (s .pre) in
     omega (arith, bound, s .good)
+
+count-requires : tie.Need-count-requires
+count-requires c κs = search needs
 
 enum-known-r-2 : tie.Need-enum-known-r-2
 enum-known-r-2 c = search needs
@@ -40,10 +43,10 @@ same-length c = search needs
 
 returns : tie.Need-returns
 returns c =
-    let a = c .before .before .before .before .before .before .before .before .args in
-    let done = c .before .before .before .before .before .do-final in
-    let m = c .before .r .given .0 .0 in (
-      sym (end-reply (a .n) (a .e) (a .out .now) _ (done .result) (done .ensures .0) (done .ensures .1) (Ok m) (c .before .r .given .1)),
+    let a = c .before .before .before .before .before .before .before .before .before .args in
+    let done = c .before .before .before .before .before .before .do-final in
+    let m = c .before .before .r .given .0 .0 in (
+      c .count .ensures ∙ sym (end-reply (a .n) (a .e) (a .out .now) _ (done .result) (done .ensures .0) (done .ensures .1) (Ok m) (c .before .before .r .given .1)),
       end-out (a .n) (a .e) (a .out .now) _ (done .result) (done .ensures .0) (done .ensures .1),
     )
 
@@ -68,7 +71,8 @@ end-spec =
     part-do-final-end
     do-final-requires
     enum-known-r
-    add-t13
+    add-count
+    count-requires
     enum-known-r-2
     reply-of-requires
     same-length

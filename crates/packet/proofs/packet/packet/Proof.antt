@@ -17,8 +17,8 @@ returns c =
     let whole = sym (no-variant (a .v) (a .d) (a .key .now) (a .nonce .now) (a .header .now) (a .input .now) (a .out .now) (sym (c .before .is-variant .ensures) ∙ not-true _ (c .if1 .taken))) in
     (ap (λ (p : PacketResult). p .reply) whole, ap (λ (p : PacketResult). p .out) whole)
 
-variant-requires : tie.Need-variant-requires
-variant-requires c κs = search needs
+variant-of-requires : tie.Need-variant-of-requires
+variant-of-requires c κs = search needs
 
 new-requires : tie.Need-new-requires
 new-requires c κs = search needs
@@ -47,14 +47,14 @@ same-length c = search needs
 returns-2 : tie.Need-returns-2
 returns-2 c =
     let a = c .before .before .before .before .before .before .before .before .before .before .before .before .before .before .before .before .before .before .args in
-    let whole = sym (start-packet (a .v) (a .d) (a .key .now) (a .nonce .now) (a .header .now) (a .input .now) (a .out .now) (c .before .before .before .before .before .before .before .init .result) (c .before .before .before .before .before .before .before .before .tag-bytes .result) (c .before .before .before .before .before .before .before .before .before .before .variant .result) (c .before .before .before .before .before .before .before .before .before .new .result) (sym (c .before .before .before .before .before .before .before .before .before .before .before .before .is-variant .ensures) ∙ not-false _ (c .before .before .before .before .before .before .before .before .before .before .before .if1 .left)) (c .before .before .before .before .before .before .before .before .before .before .variant .ensures) (c .before .before .before .before .before .before .before .before .before .new .ensures) (c .before .before .before .before .before .before .before .before .tag-bytes .ensures) (c .before .before .before .before .before .before .before .init .ensures) Started (c .before .before .before .before .enum-told .given .1)) in
+    let whole = sym (start-packet (a .v) (a .d) (a .key .now) (a .nonce .now) (a .header .now) (a .input .now) (a .out .now) (c .before .before .before .before .before .before .before .init .result) (c .before .before .before .before .before .before .before .before .tag-bytes .result) (c .before .before .before .before .before .before .before .before .before .before .variant-of .result) (c .before .before .before .before .before .before .before .before .before .new .result) (sym (c .before .before .before .before .before .before .before .before .before .before .before .before .is-variant .ensures) ∙ not-false _ (c .before .before .before .before .before .before .before .before .before .before .before .if1 .left)) (c .before .before .before .before .before .before .before .before .before .before .variant-of .ensures) (c .before .before .before .before .before .before .before .before .before .new .ensures) (c .before .before .before .before .before .before .before .before .tag-bytes .ensures) (c .before .before .before .before .before .before .before .init .ensures) Started (c .before .before .before .before .enum-told .given .1)) in
     (c .before .before .«data» .ensures .0 ∙ ap (λ (p : PacketResult). p .reply) whole, c .before .before .«data» .ensures .1 ∙ ap (λ (p : PacketResult). p .out) whole)
 
 returns-3 : tie.Need-returns-3
 returns-3 c =
     let a = c .before .before .before .before .before .before .before .before .before .before .before .before .before .before .before .before .args in
     let x = c .before .before .r .given .0 .0 in
-    let whole = sym (start-packet (a .v) (a .d) (a .key .now) (a .nonce .now) (a .header .now) (a .input .now) (a .out .now) (c .before .before .before .before .before .init .result) (c .before .before .before .before .before .before .tag-bytes .result) (c .before .before .before .before .before .before .before .before .variant .result) (c .before .before .before .before .before .before .before .new .result) (sym (c .before .before .before .before .before .before .before .before .before .before .is-variant .ensures) ∙ not-false _ (c .before .before .before .before .before .before .before .before .before .if1 .left)) (c .before .before .before .before .before .before .before .before .variant .ensures) (c .before .before .before .before .before .before .before .new .ensures) (c .before .before .before .before .before .before .tag-bytes .ensures) (c .before .before .before .before .before .init .ensures) (Refused x) (c .before .before .r .given .1)) in
+    let whole = sym (start-packet (a .v) (a .d) (a .key .now) (a .nonce .now) (a .header .now) (a .input .now) (a .out .now) (c .before .before .before .before .before .init .result) (c .before .before .before .before .before .before .tag-bytes .result) (c .before .before .before .before .before .before .before .before .variant-of .result) (c .before .before .before .before .before .before .before .new .result) (sym (c .before .before .before .before .before .before .before .before .before .before .is-variant .ensures) ∙ not-false _ (c .before .before .before .before .before .before .before .before .before .if1 .left)) (c .before .before .before .before .before .before .before .before .variant-of .ensures) (c .before .before .before .before .before .before .before .new .ensures) (c .before .before .before .before .before .before .tag-bytes .ensures) (c .before .before .before .before .before .init .ensures) (Refused x) (c .before .before .r .given .1)) in
     (c .start-reply-of .ensures ∙ ap (λ (p : PacketResult). p .reply) whole, ap (λ (p : PacketResult). p .out) whole)
 
 pub packet-spec : {M : Type 1} → statement M
@@ -63,7 +63,7 @@ packet-spec =
     (tie.spec
     is-variant-requires
     returns
-    variant-requires
+    variant-of-requires
     new-requires
     tag-bytes-requires
     init-requires
