@@ -23,6 +23,7 @@ use Rattle.tc_aead_cipher.specs.declared.aead_error.AeadError.the-variants.{Out
 use Rattle.tc_aead_cipher.specs.declared.aead_error.AeadResult.{AeadResult}
 use Rattle.tc_aead_cipher.specs.declared.aead_error.AeadResult.the-variants.{Ok, Err}
 use Rattle.tc_sparkle_aead.specs.declared.engine.Mac.{Mac}
+use Rattle.tc_sparkle_aead.specs.declared.engine.Steps.{Steps}
 use Rattle.tc_sparkle_aead.specs.declared.engine.SparkleEngine.{SparkleEngine}
 use Rattle.tc_aead_cipher.specs.Variant.{paramsOf}
 use Rattle.tc_aead_cipher.specs.Checks.{opens, opening, keep, heldData, then, within64, updateLen, totalLen, phaseCheck, room, dataCheck, whole, endCheck}
@@ -36,7 +37,7 @@ use Rattle.claims.proofs.Points.{held-nil, blockPoint}
 use Rattle.claims.proofs.OpeningEnd.{packet-given}
 use Rattle.claims.proofs.Invariant.{pairIn, PhaseInvariant, engineOf, dataPoint, pointIn, then-good, holds-data, state-data}
 use Rattle.claims.proofs.Invariant.{LoadsFit, isLoaded, last-fits, data-given, phase-agrees}
-use Rattle.claims.proofs.InvariantKept.{readerOf, inData, begin-data, sealing-state, sealing-block, sealing-tag}
+use Rattle.claims.proofs.InvariantKept.{readerOf, inData, begunSteps, begin-data, sealing-state, sealing-block, sealing-tag}
 use Rattle.claims.proofs.InvariantKept.{opening-block, opening-last}
 use Rattle.tc_sparkle_aead.specs.Engine.{currentKey}
 
@@ -164,26 +165,26 @@ module _ (v : SparkleVariant) where
     abbrev readerIn : Phase → (header body : List ℕ) → Reader
     readerIn phase header body = readerOf loads initial phase header body
 
-    abbrev dataEngine : Direction → (header body : List ℕ) → SparkleEngine
-    dataEngine d header body = inData v loads initial d header body
+    abbrev dataEngine : Direction → (header body : List ℕ) → Steps → SparkleEngine
+    dataEngine d header body s = inData v loads initial d header body s
 
-    module _ (f : LoadsFit p loads) (header body : List ℕ) (mac : Mac) (n : ℕ) where
+    module _ (f : LoadsFit p loads) (header body : List ℕ) (mac : Mac) where
       -- what is held
       pub buffered-count : {d : Direction} {phase : Phase} → Active d phase
-          → PhaseInvariant p phase loads initial header body mac n
+          → PhaseInvariant p phase loads header body mac
           → heldData p phase (readerHeld p (readerIn phase header body))
           ≡ length (held (p .rate) (keep p (Data d)) body)
       buffered-count {d = d} Active.in-init st =
-          rw (st .4, held-nil (p .rate) (keep p (Data d)))
+          rw (st .3, held-nil (p .rate) (keep p (Data d)))
       buffered-count {d = d} Active.in-aad st =
-          rw (st .4, held-nil (p .rate) (keep p (Data d)))
+          rw (st .3, held-nil (p .rate) (keep p (Data d)))
       buffered-count {d = d} Active.in-data st =
-          let s = sizes v in
+          let h = sizes v in
           omega (
             arith,
             length-held (p .rate) (keep p (Data d)) body,
             rest-below (p .rate) (keep p (Data d))
-                (s .rate-positive) (length body),
+                (h .rate-positive) (length body),
           )
 
       pub released-data : {d : Direction} {phase : Phase} → Active d phase
@@ -195,14 +196,14 @@ module _ (v : SparkleVariant) where
       released-data Active.in-data = refl
 
       -- a data call
-      module _ (d : Direction) (input : List ℕ) where
+      module _ (d : Direction) (s : Steps) (input : List ℕ) where
         data-bytes : released p (readerIn (Data d) header (body ++ input))
             ≡ released p (readerIn (Data d) header body)
-            ++ dataOut (dataEngine d header body) input
+            ++ dataOut (dataEngine d header body s) input
         unfolding released dataOut dataPoint blockPoint streamOut
         data-bytes = sym (data-given p (sizes v) (small v) d key nonce header body input (crypt p))
 
-        data-length : length (dataOut (dataEngine d header body) input)
+        data-length : length (dataOut (dataEngine d header body s) input)
             ≡ ready (p .rate) (keep p (Data d)) (length (held (p .rate) (keep p (Data d)) body) + length input) * p .rate
         unfolding dataOut dataPoint blockPoint blockCount stream streamOut
         data-length =
@@ -219,28 +220,29 @@ module _ (v : SparkleVariant) where
             (ap (λ (l : List ℕ). length (l ++ input)) (holds-data p (sizes v) (small v) d key nonce header body)
             ∙ length-append (held (p .rate) (keep p (Data d)) body) input)
 
-      pub message-writes : {d : Direction} {phase : Phase} → Active d phase
-          → PhaseInvariant p phase loads initial header body mac n
+      pub message-writes : (s : Steps) {d : Direction} {phase : Phase} → Active d phase
+          → PhaseInvariant p phase loads header body mac
           → (input out : List ℕ) (k : ℕ)
           → DataPassed p phase (readerHeld p (readerIn phase header body)) (length input) (length out) k
           → Writes (released p (readerIn phase header body))
           (released p (readerIn (dataPhase phase) header (body ++ input)))
-          out (written (dataOut (beginData (engineOf v (readerIn phase header body) mac n)) input) out) k
-      message-writes {d} {phase} t st input out k ok =
+          out (written (dataOut (beginData (engineOf v (readerIn phase header body) mac s)) input) out) k
+      message-writes s {d} {phase} t st input out k ok =
           let r = readerIn phase header body in
-          let is = begin-data v loads initial f t header body mac n st in
+          let begun = begunSteps p phase s in
+          let is = begin-data v loads initial f t header body mac s st in
           let e : released p (readerIn (dataPhase phase) header (body ++ input))
-          ≡ released p r ++ dataOut (beginData (engineOf v r mac n)) input =
+          ≡ released p r ++ dataOut (beginData (engineOf v r mac s)) input =
           ap (λ (x : Phase). released p (readerIn x header (body ++ input))) (active-phase t)
-          ∙ data-bytes d input
+          ∙ data-bytes d begun input
           ∙ ap₂ (λ (x : List ℕ) (y : SparkleEngine). x ++ dataOut y input) (sym (released-data t)) (sym is)
           in
-          let l : length (dataOut (beginData (engineOf v r mac n)) input) ≡ k =
-          ap (λ (y : SparkleEngine). length (dataOut y input)) is ∙ data-length d input
+          let l : length (dataOut (beginData (engineOf v r mac s)) input) ≡ k =
+          ap (λ (y : SparkleEngine). length (dataOut y input)) is ∙ data-length d begun input
           ∙ ap₂ (λ (x y : ℕ). ready (p .rate) x (y + length input) * p .rate) (sym (active-keep p t)) (sym (buffered-count t st))
           ∙ sym (ok .count)
           in
-          writes (released p r) _ out (dataOut (beginData (engineOf v r mac n)) input) k e l (ok .fits)
+          writes (released p r) _ out (dataOut (beginData (engineOf v r mac s)) input) k e l (ok .fits)
 
       -- the end of a sealing
       pub seal-bytes : isLoaded loads ≡ true → seal p key nonce header body
@@ -319,7 +321,7 @@ module _ (v : SparkleVariant) where
 
       -- the end, past its checks, by the direction
       module _ {d : Direction} {phase : Phase} (t : Active d phase)
-          (st : PhaseInvariant p phase loads initial header body mac n)
+          (st : PhaseInvariant p phase loads header body mac)
           (out : List ℕ) (k : ℕ)
           (ok : EndPassed p phase (readerHeld p (readerIn phase header body)) (length out) k) where
         pub is-open : opening (pointIn p phase key nonce header body .phase) ≡ opens d

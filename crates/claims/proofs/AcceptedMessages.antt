@@ -10,7 +10,7 @@ use lib.ListN.{length}
 use Rattle.schwaemm.specs.Blocks.{ready}
 use Rattle.schwaemm.specs.Schwaemm.{Params, Sizes, decrypt, seal, tag, steps, body as bodyOf, verified}
 use Rattle.schwaemm.proofs.Cut.{ready-bound}
-use Rattle.schwaemm.proofs.RoundTrip.{verified-seal, body-seal, decrypt-encrypt, length-seal, length-decrypt}
+use Rattle.schwaemm.proofs.RoundTrip.{verified-seal, body-seal, decrypt-encrypt, length-seal}
 use Rattle.tc_aead_cipher.specs.declared.variant.SparkleVariant.{SparkleVariant}
 use Rattle.tc_aead_cipher.specs.declared.phase.Direction.{Direction}
 use Rattle.tc_aead_cipher.specs.declared.phase.Direction.the-variants.{Encrypt, Decrypt}
@@ -39,13 +39,14 @@ use Rattle.claims.specs.Reader.{Load, loadedKey, loadedNonce, readFrom, 
 use Rattle.claims.specs.Messages.{messageOf, headerIn, dataOf, countOf, outputs, Between, AllBetween, Each}
 use Rattle.claims.specs.Messages.{startedEngine, headerBytes, dataBytes, HeaderCall, DataCall, messageCalls, RoomFor}
 use Rattle.claims.specs.Messages.{Rooms, Ample, IsAccepted, Accepts, Completes, Rejects, RoundTrip}
-use Rattle.claims.proofs.OpeningEnd.{length-body}
+use Rattle.claims.specs.Steps.{messageLength}
 use Rattle.claims.proofs.Invariant.{Invariant, PhaseInvariant, engineOf}
 use Rattle.claims.proofs.InvariantKept.{readerOf, invariant-step, invariant-from, invariant-run, aad-some}
 use Rattle.claims.proofs.InvariantKept.{header-answer, update-answer, total-answer}
 use Rattle.claims.proofs.Accepted.{active-opening}
-use Rattle.claims.proofs.CallOutputs.{outcome-ok, end-ended, message-outcome, seal-end, open-end}
-use Rattle.claims.proofs.UnrefusedMessages.{active-message, ActiveUnder, startedReader, start-outcome, lastReader}
+use Rattle.claims.proofs.CallOutputs.{outcome-ok, end-mac, message-outcome, seal-end, open-end}
+use Rattle.claims.proofs.StepInvariant.{Counted, counted-step, counted-from, counted-run, end-counted}
+use Rattle.claims.proofs.UnrefusedMessages.{active-message, ActiveUnder, startedReader, start-outcome, start-read, lastReader}
 use Rattle.claims.proofs.UnrefusedMessages.{start-invariant, last-invariant, last-active, sealed-accepted}
 use Rattle.claims.proofs.UnrefusedMessages.{opened-accepted}
 
@@ -121,11 +122,11 @@ header-accepted : (v : SparkleVariant) (e : SparkleEngine) (r : Reader) → Inva
     → step e (Call.Aad input) .outcome ≡ Outcome.ok 0
 unfolding step processAadBytes
 header-accepted v e r w t input =
-    let K = engineOf v r (w .mac) (w .count) in
+    let K = engineOf v r (w .mac) (w .steps) in
     ap (λ (x : SparkleEngine). outcome (aadBy (aadCheck (x .current .phase) (length input)) x input .answer))
     (w .same-engine)
     ∙ ap outcome (aad-answered (aadCheck (K .current .phase) (length input)) K input
-    (header-answer v r (w .mac) (w .count) (length input) ∙ aad-passes t input))
+    (header-answer v r (w .mac) (w .steps) (length input) ∙ aad-passes t input))
 
 -- what header calls leave
 record HeadersAccepted (v : SparkleVariant) (d : Direction) (e : SparkleEngine) (r : Reader) (calls : List Call) : Type 0 where
@@ -203,14 +204,14 @@ pub update-outcome : (v : SparkleVariant) (e : SparkleEngine) (r : Reader) → I
 unfolding step
 update-outcome v e r w k =
     ap (λ (x : SparkleEngine). outcome (updateOutputLen x k)) (w .same-engine) ∙ ap outcome
-    (update-answer v r (w .mac) (w .count) k)
+    (update-answer v r (w .mac) (w .steps) k)
 
 pub total-outcome : (v : SparkleVariant) (e : SparkleEngine) (r : Reader) → Invariant v e r → (k : ℕ)
     → step e (Call.Output k) .outcome ≡ outcome (totalLen (paramsOf v) (r .phase) (readerHeld (paramsOf v) r) k)
 unfolding step
 total-outcome v e r w k =
     ap (λ (x : SparkleEngine). outcome (outputLen x k)) (w .same-engine) ∙ ap outcome
-    (total-answer v r (w .mac) (w .count) k)
+    (total-answer v r (w .mac) (w .steps) k)
 
 -- the queries answer, whatever the engine: a sum that stays under 2^64, and the end's always
 update-answers : (v : SparkleVariant) (phase : Phase) (held k : ℕ) → k + 64 < 2 ^ 64
@@ -354,14 +355,14 @@ unfolding ready
 rest-tag rate keep n h = omega (arith, div-mul-le-self (n - (keep + 1)) rate)
 
 active-held : (p : Params) → Sizes p → {phase : Phase} → Active Decrypt phase
-    → (loads : List Load) (initial header body : List ℕ) (mac : Mac) (c : ℕ)
-    → PhaseInvariant p phase loads initial header body mac c → p .key ≤ length body
+    → (loads : List Load) (initial header body : List ℕ) (mac : Mac)
+    → PhaseInvariant p phase loads header body mac → p .key ≤ length body
     → p .key ≤ heldData p phase (readerHeld p (readerOf loads initial phase header body))
-active-held p s Active.in-init loads initial header body mac c st enough =
-    absurd (omega (arith, ap length (st .4)))
-active-held p s Active.in-aad loads initial header body mac c st enough =
-    absurd (omega (arith, ap length (st .4)))
-active-held p s Active.in-data loads initial header body mac c st enough =
+active-held p s Active.in-init loads initial header body mac st enough =
+    absurd (omega (arith, ap length (st .3)))
+active-held p s Active.in-aad loads initial header body mac st enough =
+    absurd (omega (arith, ap length (st .3)))
+active-held p s Active.in-data loads initial header body mac st enough =
     omega (arith, rest-tag (p .rate) (p .key) (length body) enough)
 
 open-passes : (v : SparkleVariant) (e : SparkleEngine) (r : Reader) → Invariant v e r → Active Decrypt (r .phase)
@@ -374,7 +375,7 @@ open-passes v e r w t out enough tagged =
     let n = enough .0 in
     let u : totalLen p (r .phase) h 0 ≡ Ok n = outcome-ok _ n (sym (total-outcome v e r w 0) ∙ enough .1) in
     let k =
-    active-held p (sizes v) t (r .loads) (r .initial) (r .header) (r .body) (w .mac) (w .count)
+    active-held p (sizes v) t (r .loads) (r .initial) (r .header) (r .body) (w .mac)
     (w .phase-invariant) tagged in (
       n,
       end-passes p t h (length out) n u (enough .2)
@@ -468,8 +469,30 @@ module _ (v : SparkleVariant) (before : List Call) (key nonce : List ℕ) (size 
         (lastReader v before d key nonce initial (hs ++ ms))
     end-invariant = last-invariant v before d key nonce size initial (hs ++ ms) out 0 o (between d)
 
+    end-count : Counted v (runFrom (startedEngine v before d key nonce size initial) (hs ++ ms) .steps)
+        (lastReader v before d key nonce initial (hs ++ ms))
+    end-count =
+        let w = invariant-run v before in
+        counted-from v (startedEngine v before d key nonce size initial) (startedReader (reader v before) d key nonce initial)
+        (start-invariant v before d key nonce size initial (hs ++ ms) out 0 o (between d))
+        (subst (Counted v (startedEngine v before d key nonce size initial .steps))
+        (start-read v (run v before) (reader v before) w d key nonce size initial 0 o)
+        (counted-step v (run v before) (reader v before) w (counted-run v before) (Call.Init d key nonce size initial)))
+        (hs ++ ms)
+
     end-active : ActiveUnder d key nonce (lastReader v before d key nonce initial (hs ++ ms))
     end-active = last-active v before d key nonce size initial (hs ++ ms) out 0 o (between d)
+
+    -- the steps after the end: those of the whole message
+    end-steps : (k : ℕ)
+        → endCheck (paramsOf v) (lastReader v before d key nonce initial (hs ++ ms) .phase)
+        (readerHeld (paramsOf v) (lastReader v before d key nonce initial (hs ++ ms))) (length out) ≡ Ok k
+        → stepsNow (step (runFrom (startedEngine v before d key nonce size initial) (hs ++ ms)) (Call.Final out) .engine)
+        ≡ steps (paramsOf v) (length (initial ++ headerBytes hs)) (messageLength d (paramsOf v) (length (dataBytes ms))) % 2 ^ 64
+    end-steps k passed =
+        end-counted v _ _ end-invariant end-count out k passed (end-active .active)
+        ∙ ap₂ (λ (x y : List ℕ). steps (paramsOf v) (length x) (messageLength d (paramsOf v) (length y)) % 2 ^ 64)
+        (ready-end .header-is) (ready-end .body-is)
 
     -- what is said of the last reader's parts is said of what was handed in
     in-parts : (A : Type 0) (g : (key nonce header body : List ℕ) → A)
@@ -504,7 +527,6 @@ module _ (v : SparkleVariant) (before : List Call) (key nonce : List ℕ) (size 
       let a = ready-end Encrypt o rooms in
       let q = seal-passes v _ r w t out (end-room Encrypt o rooms .1 .0) in
       let f = seal-end v _ r w out (q .0) (q .1) (active-opening t) .outcome-is in
-      let z = end-ended v _ r w out (q .0) (q .1) in
       let sealing =
       ap (λ (b : Bool). cond b (decrypt p (loadedKey r) (loadedNonce r) (r .header) (bodyOf p (r .body))) (r .body))
       (active-opening t) in
@@ -514,15 +536,12 @@ module _ (v : SparkleVariant) (before : List Call) (key nonce : List ℕ) (size 
             sealed-accepted v before key nonce size initial (hs ++ ms) out 0 (q .0) o (between Encrypt) f
             ∙ ap₂ (λ (x y : List ℕ). seal p key nonce x y) (a .header-is) (a .body-is);
         tag-is =
-            ap macOf (whole-run Encrypt o rooms) ∙ z .mac-is
+            ap macOf (whole-run Encrypt o rooms) ∙ end-mac v _ r w out (q .0) (q .1)
             ∙ ap (λ (b : Bool). cond (cond b (verified p (loadedKey r) (loadedNonce r) (r .header) (r .body)) true)
             (readable (tag p (loadedKey r) (loadedNonce r) (r .header) (messageOf p r))) noMac) (active-opening t)
             ∙ ap (λ (x : List ℕ). readable (tag p (loadedKey r) (loadedNonce r) (r .header) x)) sealing
             ∙ in-parts Encrypt o rooms Mac (λ k n x y. readable (tag p k n x y));
-        steps-are =
-            ap stepsNow (whole-run Encrypt o rooms) ∙ z .steps-are
-            ∙ ap (λ (x : List ℕ). steps p (length (r .header)) (length x) % 2 ^ 64) sealing
-            ∙ in-parts Encrypt o rooms ℕ (λ k n x y. steps p (length x) (length y) % 2 ^ 64);
+        steps-are = ap stepsNow (whole-run Encrypt o rooms) ∙ end-steps Encrypt o rooms (q .0) (q .1);
       }
 
   -- After any calls, an opening of a verified packet with room for its outputs is accepted, and writes what the packet's
@@ -548,19 +567,6 @@ module _ (v : SparkleVariant) (before : List Call) (key nonce : List ℕ) (size 
         (active-opening (end-active Decrypt opening-starts rooms .active))
         ∙ in-parts Decrypt opening-starts rooms (List ℕ) (λ k n x y. decrypt p k n x (bodyOf p y))
 
-    open-steps : (e : SparkleEngine) → stepsNow e
-        ≡ steps (paramsOf v) (length (lastReader v before Decrypt key nonce initial (hs ++ ms) .header))
-        (length (messageOf (paramsOf v) (lastReader v before Decrypt key nonce initial (hs ++ ms)))) % 2 ^ 64
-        → stepsNow e ≡ steps (paramsOf v) (length (initial ++ headerBytes hs)) (length (dataBytes ms) - paramsOf v .key) % 2 ^ 64
-    open-steps e h =
-        let p = paramsOf v in
-        h
-        ∙ ap₂ (λ (x y : List ℕ). steps p (length x) (length y) % 2 ^ 64)
-        (ready-end Decrypt opening-starts rooms .header-is) open-message
-        ∙ ap (λ (k : ℕ). steps p (length (initial ++ headerBytes hs)) k % 2 ^ 64)
-        (length-decrypt p (sizes v) key nonce (initial ++ headerBytes hs) (bodyOf p (dataBytes ms)) ∙ length-body p
-        (dataBytes ms) tagged)
-
     module _ (g : Bool) (is : verified (paramsOf v) key nonce (initial ++ headerBytes hs) (dataBytes ms) ≡ g) where
       open-verdict : verified (paramsOf v) (loadedKey (lastReader v before Decrypt key nonce initial (hs ++ ms)))
           (loadedNonce (lastReader v before Decrypt key nonce initial (hs ++ ms)))
@@ -583,9 +589,8 @@ module _ (v : SparkleVariant) (before : List Call) (key nonce : List ℕ) (size 
           let p = paramsOf v in
           let r = lastReader v before Decrypt key nonce initial (hs ++ ms) in
           let H = initial ++ headerBytes hs in
-          let z = end-ended v _ r (end-invariant Decrypt opening-starts rooms) out (open-checked .0) (open-checked .1) in
           let t = active-opening (end-active Decrypt opening-starts rooms .active) in
-          z .mac-is
+          end-mac v _ r (end-invariant Decrypt opening-starts rooms) out (open-checked .0) (open-checked .1)
           ∙ ap₂ (λ (b : Bool) (x : List ℕ). cond (cond b (verified p (loadedKey r) (loadedNonce r) (r .header) (r .body)) true)
           (readable (tag p (loadedKey r) (loadedNonce r) (r .header) x)) noMac)
           t open-message
@@ -602,7 +607,6 @@ module _ (v : SparkleVariant) (before : List Call) (key nonce : List ℕ) (size 
         let p = paramsOf v in
         let o = opening-starts in
         let a = ready-end Decrypt o rooms in
-        let z = end-ended v _ _ (end-invariant Decrypt o rooms) out (open-checked .0) (open-checked .1) in
         record {
           accepted = (
             (0, o),
@@ -614,7 +618,7 @@ module _ (v : SparkleVariant) (before : List Call) (key nonce : List ℕ) (size 
               (open-outcome true good) .bytes-are
               ∙ ap₂ (λ (x y : List ℕ). decrypt p key nonce x (bodyOf p y)) (a .header-is) (a .body-is);
           tag-is = ap macOf (whole-run Decrypt o rooms) ∙ open-mac true good;
-          steps-are = ap stepsNow (whole-run Decrypt o rooms) ∙ open-steps _ (z .steps-are);
+          steps-are = ap stepsNow (whole-run Decrypt o rooms) ∙ end-steps Decrypt o rooms (open-checked .0) (open-checked .1);
         }
 
     -- A packet that is not verified is refused with 6 at the end, and nothing else is refused.
@@ -627,7 +631,6 @@ module _ (v : SparkleVariant) (before : List Call) (key nonce : List ℕ) (size 
         let a = ready-end Decrypt o rooms in
         let w = end-invariant Decrypt o rooms in
         let t = active-opening (end-active Decrypt o rooms .active) in
-        let z = end-ended v _ _ w out (open-checked .0) (open-checked .1) in
         record {
           accepted = ((0, o), a .accepted);
           outcome-is = open-outcome false bad;
@@ -637,7 +640,7 @@ module _ (v : SparkleVariant) (before : List Call) (key nonce : List ℕ) (size 
                 (open-verdict false bad),
           );
           no-tag = open-mac false bad;
-          steps-are = open-steps _ (z .steps-are);
+          steps-are = end-steps Decrypt o rooms (open-checked .0) (open-checked .1);
         }
 
 pub opened-sealed : (v : SparkleVariant) (before after : List Call) (key nonce : List ℕ) (size : ℕ)

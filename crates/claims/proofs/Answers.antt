@@ -60,7 +60,7 @@ pub answer-step : (v : SparkleVariant) (e : SparkleEngine) (r : Reader) → Inva
 unfolding answerOf
 answer-step v e r w (Call.Init d key nonce size h) a = start-outcome v e r w d key nonce size h
 answer-step v e r w (Call.Aad input) a =
-    header-outcome v e r w input ∙ ap outcome (header-same (r .phase) (engineOf v r (w .mac) (w .count)) input)
+    header-outcome v e r w input ∙ ap outcome (header-same (r .phase) (engineOf v r (w .mac) (w .steps)) input)
 answer-step v e r w (Call.Data input out) a = message-outcome v e r w input out
 answer-step v e r w (Call.Final out) a = end-answer v e r w out _ refl _ refl
 answer-step v e r w Call.Reset a = unfold step in refl

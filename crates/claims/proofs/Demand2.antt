@@ -36,11 +36,12 @@ use Rattle.claims.specs.Steps.{stepsBefore, stepsAfterInit}
 use Rattle.claims.specs.Messages.{released, Writes, Each, endOutcome, answerOf, messageOf, EndsWith, finishedBytes}
 use Rattle.claims.specs.Messages.{OpenEndExact, Before, Keeps}
 use Rattle.claims.proofs.Points.{blockPoint}
-use Rattle.claims.proofs.Invariant.{PhaseInvariant, SealingFinal, openedMac, headCount, dataCount, headPoint}
-use Rattle.claims.proofs.Invariant.{dataPoint, pointIn, initialCount, phase-agrees}
+use Rattle.claims.proofs.Invariant.{PhaseInvariant, SealingFinal, openedMac, headPoint}
+use Rattle.claims.proofs.Invariant.{dataPoint, pointIn, phase-agrees}
 use Rattle.claims.proofs.InvariantKept.{readerOf, invariant-run, aad-some}
 use Rattle.claims.proofs.Answers.{answers}
-use Rattle.claims.proofs.CallOutputs.{SealEnd, OpenEnd, end-ended, message-writes-next, seal-end, open-end}
+use Rattle.claims.proofs.CallOutputs.{SealEnd, OpenEnd, message-writes-next, seal-end, open-end}
+use Rattle.claims.proofs.StepInvariant.{counted-run, end-ended}
 
 module _ (v : SparkleVariant) (calls : List Call) where
   -- An accepted data call writes the specification's next bytes.
@@ -97,7 +98,8 @@ pub end-tag-and-steps : (v : SparkleVariant) (calls : List Call) (out : List ℕ
     (verified (paramsOf v) (loadedKey (reader v calls)) (loadedNonce (reader v calls)) (reader v calls .header)
     (reader v calls .body)) true)
     (step (run v calls) (Call.Final out) .engine)
-end-tag-and-steps v calls out n passed = end-ended v (run v calls) (reader v calls) (invariant-run v calls) out n passed
+end-tag-and-steps v calls out n passed =
+    end-ended v (run v calls) (reader v calls) (invariant-run v calls) (counted-run v calls) out n passed
 
 -- What an accepted end says: its checks passed, and an opening's packet is verified.
 end-passed : (k : AeadResult) (o g : Bool) (n : ℕ) → endOutcome k o g ≡ Outcome.ok n → (k ≡ Ok n) × (cond o g true ≡ true)
@@ -143,23 +145,22 @@ opened-tag : (g : Bool) (t : List ℕ) (mac : Mac) → mac ≡ cond g (readable 
 opened-tag true t mac e h = e
 opened-tag false t mac e h = absurd (no-tag mac e h)
 
-sealed-tag : (p : Params) (key nonce initial header body : List ℕ) (mac : Mac) (c : ℕ)
-    → SealingFinal p key nonce initial header body mac c
+sealed-tag : (p : Params) (key nonce header body : List ℕ) (mac : Mac) → SealingFinal p key nonce header body mac
     → mac .readable ≡ true → mac ≡ readable (tag p key nonce header body)
-sealed-tag p key nonce initial header body mac c (SealingFinal.was-reset e k) h = absurd (no-tag mac e h)
-sealed-tag p key nonce initial header body mac c (SealingFinal.has-ended e k) h = e
+sealed-tag p key nonce header body mac (SealingFinal.was-reset e) h = absurd (no-tag mac e h)
+sealed-tag p key nonce header body mac (SealingFinal.has-ended e) h = e
 
-mac-in : (p : Params) (phase : Phase) (loads : List Load) (initial header body : List ℕ) (mac : Mac) (c : ℕ)
-    → PhaseInvariant p phase loads initial header body mac c → mac .readable ≡ true
+mac-in : (p : Params) (phase : Phase) (loads : List Load) (initial header body : List ℕ) (mac : Mac)
+    → PhaseInvariant p phase loads header body mac → mac .readable ≡ true
     → mac ≡ readable (tag p (lastKey loads) (lastNonce loads) header (messageOf p (readerOf loads initial phase header body)))
 unfolding messageOf openedMac
-mac-in p Uninitialized loads initial header body mac c st h = absurd (no-tag mac (st .0) h)
-mac-in p (Init d) loads initial header body mac c st h = absurd (no-tag mac (st .1) h)
-mac-in p (Aad d) loads initial header body mac c st h = absurd (no-tag mac (st .1) h)
-mac-in p (Data d) loads initial header body mac c st h = absurd (no-tag mac (st .1) h)
-mac-in p (Final Encrypt) loads initial header body mac c st h =
-    sealed-tag p (lastKey loads) (lastNonce loads) initial header body mac c (st .1) h
-mac-in p (Final Decrypt) loads initial header body mac c st h =
+mac-in p Uninitialized loads initial header body mac st h = absurd (no-tag mac st h)
+mac-in p (Init d) loads initial header body mac st h = absurd (no-tag mac (st .1) h)
+mac-in p (Aad d) loads initial header body mac st h = absurd (no-tag mac (st .1) h)
+mac-in p (Data d) loads initial header body mac st h = absurd (no-tag mac (st .1) h)
+mac-in p (Final Encrypt) loads initial header body mac st h =
+    sealed-tag p (lastKey loads) (lastNonce loads) header body mac (st .1) h
+mac-in p (Final Decrypt) loads initial header body mac st h =
     opened-tag (verified p (lastKey loads) (lastNonce loads) header body) _ mac (st .1) h
 
 shown-mac : (e : SparkleEngine) → macOf e .readable ≡ true → (e .mac .readable ≡ true) × (macOf e ≡ e .mac)
@@ -182,8 +183,7 @@ mac-bytes v calls h =
     let s = shown-mac e h in
     let is : e .mac ≡ w .mac = ap (λ (x : SparkleEngine). x .mac) (w .same-engine) in
     s .1 ∙ is
-    ∙ mac-in (paramsOf v) (r .phase) (r .loads) (r .initial) (r .header) (r .body) (w .mac) (w .count)
-    (w .phase-invariant)
+    ∙ mac-in (paramsOf v) (r .phase) (r .loads) (r .initial) (r .header) (r .body) (w .mac) (w .phase-invariant)
     (sym (ap (λ (m : Mac). m .readable) is) ∙ s .0)
 
 -- ---- What is held
@@ -220,45 +220,19 @@ phase-is v calls =
 
 -- ---- The steps
 
-pub steps-in : (p : Params) (phase : Phase) (loads : List Load) (initial header body : List ℕ) (mac : Mac) (c : ℕ)
-    → Before phase
-    → PhaseInvariant p phase loads initial header body mac c → c ≡ stepsBefore p phase header body % 2 ^ 64
-unfolding stepsBefore headCount dataCount
-steps-in p Uninitialized loads initial header body mac c b st = st .1
-steps-in p (Init d) loads initial header body mac c b st = st .2
-steps-in p (Aad d) loads initial header body mac c b st = st .2
-steps-in p (Data d) loads initial header body mac c b st = st .2
-steps-in p (Final d) loads initial header body mac c b st = absurd b
-
 -- Outside Final the steps are those of what has run; so 0 in Uninitialized, after a refused start and for a new engine.
 pub steps-before-end : (v : SparkleVariant) (calls : List Call) → Before (reader v calls .phase)
     → stepsNow (run v calls)
     ≡ stepsBefore (paramsOf v) (reader v calls .phase) (reader v calls .header) (reader v calls .body) % 2 ^ 64
 unfolding stepsNow
-steps-before-end v calls b =
-    let r = reader v calls in
-    let w = invariant-run v calls in
-    ap (λ (e : SparkleEngine). e .steps .current) (w .same-engine)
-    ∙ steps-in (paramsOf v) (r .phase) (r .loads) (r .initial) (r .header) (r .body) (w .mac)
-    (w .count) b (w .phase-invariant)
-
-initial-steps : (p : Params) (phase : Phase) (initial : List ℕ) → initialCount p phase initial
-    ≡ stepsAfterInit p phase initial % 2 ^ 64
-unfolding headCount stepsAfterInit
-initial-steps p Uninitialized initial = refl
-initial-steps p (Init d) initial = refl
-initial-steps p (Aad d) initial = refl
-initial-steps p (Data d) initial = refl
-initial-steps p (Final d) initial = refl
+steps-before-end v calls b = counted-run v calls .current b
 
 -- Every reset returns to the count after init.
 pub steps-reset : (v : SparkleVariant) (calls : List Call)
     → stepsNow (step (run v calls) Call.Reset .engine)
     ≡ stepsAfterInit (paramsOf v) (reader v calls .phase) (reader v calls .initial) % 2 ^ 64
 unfolding stepsNow step resetEngine resetSteps
-steps-reset v calls =
-    ap (λ (e : SparkleEngine). e .steps .initial) (invariant-run v calls .same-engine)
-    ∙ initial-steps (paramsOf v) (reader v calls .phase) (reader v calls .initial)
+steps-reset v calls = counted-run v calls .initial
 
 -- A new engine and a refused start give 0.
 pub steps-new : (v : SparkleVariant) → stepsNow (newEngine v) ≡ 0

@@ -1,9 +1,8 @@
--- Demand 2, the steps: on every line of every list of calls they are the formula's. Outside Final the invariant has
+-- Demand 2, the steps: on every line of every list of calls they are the formula's. Outside Final the step invariant has
 -- them; in Final they change only at the end that leads there and at a reset.
-use mathlib.Core.Path.{_≡_, refl, sym, ap, subst, _∙_}
-use mathlib.Core.Bool.{Bool, true, false}
+use mathlib.Core.Path.{_≡_, refl, sym, ap, _∙_}
 use mathlib.Core.List.{List, [], _∷_, map}
-use Prim.Native.Nat.{ℕ, zero, suc, _%_, _^_}
+use Prim.Native.Nat.{ℕ, _%_, _^_}
 use native.Mathlib.Omega.{arith}
 use lib.ListN.{length}
 use Rattle.schwaemm.specs.Schwaemm.{Params, steps}
@@ -12,67 +11,43 @@ use Rattle.tc_aead_cipher.specs.declared.phase.Direction.{Direction}
 use Rattle.tc_aead_cipher.specs.declared.phase.Direction.the-variants.{Encrypt, Decrypt}
 use Rattle.tc_aead_cipher.specs.declared.phase.Phase.{Phase}
 use Rattle.tc_aead_cipher.specs.declared.phase.Phase.the-variants.{Uninitialized, Init, Aad, Data, Final}
-use Rattle.tc_aead_cipher.specs.declared.aead_error.AeadError.{AeadError}
 use Rattle.tc_aead_cipher.specs.declared.aead_error.AeadResult.{AeadResult}
 use Rattle.tc_aead_cipher.specs.declared.aead_error.AeadResult.the-variants.{Ok, Err}
 use Rattle.tc_aead_cipher.specs.declared.aead_init_error.AeadInitResult.{AeadInitResult}
 use Rattle.tc_aead_cipher.specs.declared.aead_init_error.AeadInitResult.the-variants.{Ok as StartOk, Err as StartErr}
-use Rattle.tc_sparkle_aead.specs.declared.engine.Mac.{Mac}
-use Rattle.tc_sparkle_aead.specs.declared.engine.Steps.{Steps}
 use Rattle.tc_sparkle_aead.specs.declared.engine.SparkleEngine.{SparkleEngine}
 use Rattle.tc_aead_cipher.specs.Variant.{paramsOf}
-use Rattle.tc_aead_cipher.specs.Checks.{opens, opening, heldData, aadCheck, dataCheck, endCheck, startCheck}
-use Rattle.tc_sparkle_aead.specs.Message.{noMac}
+use Rattle.tc_aead_cipher.specs.Checks.{aadCheck, dataCheck, endCheck, startCheck}
 use Rattle.tc_sparkle_aead.specs.Engine.{newEngine, noSteps, resetSteps}
 use Rattle.tc_sparkle_aead.specs.Calls.{stepsNow}
 use Rattle.tc_sparkle_aead.specs.Calls.{reset as resetEngine}
 use Rattle.tc_aead_cipher.specs.Call.{Call}
 use Rattle.tc_sparkle_aead.specs.Sheet.{step, Line, line, sheet}
 use Rattle.claims.specs.Reader.{Reader, newReader, readerHeld, repeated, readStart, aadPhase, readHeader, dataPhase}
-use Rattle.claims.specs.Reader.{Load, lastKey, lastNonce, readMessage, endIn, readEnd, resetIn, read}
-use Rattle.claims.specs.Steps.{stepsAfterInit, messageLength, endSteps, finalSteps, stepsIn, counts}
+use Rattle.claims.specs.Reader.{Load, loadedKey, loadedNonce, readMessage, readEnd, resetIn, read}
+use Rattle.claims.specs.Refused.{Active}
+use Rattle.claims.specs.Refused.Active.{in-init, in-aad, in-data}
+use Rattle.claims.specs.Steps.{stepsBefore, stepsAfterInit, messageLength, endSteps, finalSteps, stepsIn, counts}
+use Rattle.claims.specs.Messages.{Before, Keeps}
 use Rattle.claims.specs.Machine.{engine, linesOf, sheetOf}
-use Rattle.claims.proofs.Invariant.{Invariant, PhaseInvariant, SealingFinal, was-reset, has-ended, headCount}
-use Rattle.claims.proofs.Invariant.{initialCount, invariant-new}
-use Rattle.claims.proofs.InvariantKept.{invariant-step}
-use Rattle.claims.proofs.Demand2.{steps-in}
-use Rattle.claims.proofs.PublicState.{Public, publicOf, asked, next-is, headerNext, headerIn, dataNext, endNext, yes}
-use Rattle.claims.proofs.Demand3.{endCheck-held}
+use Rattle.claims.proofs.Invariant.{Invariant, invariant-new, phase-agrees}
+use Rattle.claims.proofs.InvariantKept.{readerOf, invariant-step}
+use Rattle.claims.proofs.Accepted.{end-passed-active}
+use Rattle.claims.proofs.StepInvariant.{Counted, counted-new, counted-step, end-counted}
+use Rattle.claims.proofs.Demand2.{final-keeps}
 use Rattle.claims.proofs.MachineDemand3.{engine-lines}
-use Rattle.claims.proofs.EngineDemand3.{linked}
 
 -- ---- The count in a phase
 
-no-tag : noMac .readable ≡ false
-unfolding noMac
-no-tag = refl
-
--- after an end: a sealing's tag can be read, so it was not a reset that led to Final
-ended-count : (p : Params) (d : Direction) (loads : List Load) (initial header body : List ℕ) (mac : Mac) (n : ℕ)
-    → PhaseInvariant p (Final d) loads initial header body mac n → (d ≡ Encrypt → mac .readable ≡ true)
-    → n ≡ steps p (length header) (messageLength d p (length body)) % 2 ^ 64
-ended-count p Decrypt loads initial header body mac n st h = st .2
-ended-count p Encrypt loads initial header body mac n st h = by (st .1)
-  where
-    by : SealingFinal p (lastKey loads) (lastNonce loads) initial header body mac n → n ≡ steps p (length header) (length body) % 2 ^ 64
-    by (has-ended m c) = c
-    by (was-reset m c) =
-        absurd (let a = h refl in let b = ap (λ (x : Mac). x .readable) m ∙ no-tag in let z : _≡_ {A = ℕ} 0 1 = cc in omega arith)
-
-phase-count : (p : Params) (phase old : Phase) (loads : List Load) (initial header body : List ℕ) (mac : Mac)
-    (n before : ℕ) (c : Call) → PhaseInvariant p phase loads initial header body mac n
-    → ((d : Direction) → phase ≡ Final d
-    → n ≡ finalSteps c old p before d (record { phase = phase; loads = loads; initial = initial; header = header; body = body }))
-    → n ≡ stepsIn phase old p before c (record { phase = phase; loads = loads; initial = initial; header = header; body = body })
-phase-count p Uninitialized old loads initial header body mac n before c st h =
-    steps-in p Uninitialized loads initial header body mac n tt st
-phase-count p (Init d) old loads initial header body mac n before c st h =
-    steps-in p (Init d) loads initial header body mac n tt st
-phase-count p (Aad d) old loads initial header body mac n before c st h =
-    steps-in p (Aad d) loads initial header body mac n tt st
-phase-count p (Data d) old loads initial header body mac n before c st h =
-    steps-in p (Data d) loads initial header body mac n tt st
-phase-count p (Final d) old loads initial header body mac n before c st h = h d refl
+phase-count : (p : Params) (phase old : Phase) (loads : List Load) (initial header body : List ℕ) (n before : ℕ) (c : Call)
+    → (Before phase → n ≡ stepsBefore p phase header body % 2 ^ 64)
+    → ((d : Direction) → phase ≡ Final d → n ≡ finalSteps c old p before d (readerOf loads initial phase header body))
+    → n ≡ stepsIn phase old p before c (readerOf loads initial phase header body)
+phase-count p Uninitialized old loads initial header body n before c b f = b tt
+phase-count p (Init d) old loads initial header body n before c b f = b tt
+phase-count p (Aad d) old loads initial header body n before c b f = b tt
+phase-count p (Data d) old loads initial header body n before c b f = b tt
+phase-count p (Final d) old loads initial header body n before c b f = f d refl
 
 -- ---- Which calls lead to Final
 
@@ -107,52 +82,32 @@ message-final : (k : AeadResult) (r : Reader) (input : List ℕ) (d : Direction)
 message-final (Err x) r input d q = q
 message-final (Ok n) r input d q = data-final (r .phase) d q
 
--- In Final neither a header nor a data call changes the steps.
-header-steps : (k : AeadResult) (u : Public) (n : ℕ) (d : Direction) → u .current .phase ≡ Final d
-    → headerNext k u n .steps ≡ u .steps
-header-steps (Err x) u n d q = refl
-header-steps (Ok k) u zero d q = refl
-header-steps (Ok k) u (suc n) d q = go (u .current .phase) q
+-- An accepted end leads to Final in the phase's own direction.
+taken-steps : (p : Params) (d : Direction) {phase : Phase} → Active d phase → (loads : List Load) (initial header body : List ℕ)
+    (n before k : ℕ) → n ≡ steps p (length header) (messageLength d p (length body)) % 2 ^ 64
+    → (f : Direction) → readEnd (Ok k) p (readerOf loads initial phase header body) .reader .phase ≡ Final f
+    → n ≡ endSteps phase p before f (readEnd (Ok k) p (readerOf loads initial phase header body) .reader)
+taken-steps p d t loads initial header body n before k e f q = by d t e q
   where
-    go : (phase : Phase) → phase ≡ Final d → headerIn phase u (suc n) .steps ≡ u .steps
-    go Uninitialized q = refl
-    go (Init e) q = cc
-    go (Aad e) q = cc
-    go (Data e) q = refl
-    go (Final e) q = refl
+    to : (d : Direction) → d ≡ f → steps p (length header) (messageLength d p (length body)) % 2 ^ 64
+        ≡ steps p (length header) (messageLength f p (length body)) % 2 ^ 64
+    to d z = ap (λ (x : Direction). steps p (length header) (messageLength x p (length body)) % 2 ^ 64) z
 
-data-steps : (p : Params) (u : Public) (phase : Phase) (held n available : ℕ) (d : Direction) → phase ≡ Final d
-    → dataNext (dataCheck p phase held n available) u n .steps ≡ u .steps
-unfolding dataCheck
-data-steps p u phase held n available d q = rw q
-
--- An accepted end leads to the phase's own direction.
-direction : (phase : Phase) (p : Params) (r : Reader) (d : Direction) (held available k : ℕ)
-    → endCheck p phase held available ≡ Ok k → endIn phase p r .reader .phase ≡ Final d → opening phase ≡ opens d
-unfolding endCheck
-direction Uninitialized p r d held available k c q = absurd (let z : _≡_ {A = ℕ} 0 1 = cc in omega arith)
-direction (Init Encrypt) p r d held available k c q = let z : Encrypt ≡ d = cc in ap opens z
-direction (Init Decrypt) p r d held available k c q = let z : Decrypt ≡ d = cc in ap opens z
-direction (Aad Encrypt) p r d held available k c q = let z : Encrypt ≡ d = cc in ap opens z
-direction (Aad Decrypt) p r d held available k c q = let z : Decrypt ≡ d = cc in ap opens z
-direction (Data Encrypt) p r d held available k c q = let z : Encrypt ≡ d = cc in ap opens z
-direction (Data Decrypt) p r d held available k c q = let z : Decrypt ≡ d = cc in ap opens z
-direction (Final f) p r d held available k c q = absurd (let z : _≡_ {A = ℕ} 0 1 = cc in omega arith)
-
-taken-steps : (phase : Phase) (p : Params) (r : Reader) (d : Direction) (n before held available k : ℕ)
-    → endCheck p phase held available ≡ Ok k
-    → n ≡ steps p (length (r .header)) (messageLength d p (length (r .body))) % 2 ^ 64 → n ≡ endSteps phase p before d r
-unfolding endCheck
-taken-steps Uninitialized p r d n before held available k c q = absurd (let z : _≡_ {A = ℕ} 0 1 = cc in omega arith)
-taken-steps (Init f) p r d n before held available k c q = q
-taken-steps (Aad f) p r d n before held available k c q = q
-taken-steps (Data f) p r d n before held available k c q = q
-taken-steps (Final f) p r d n before held available k c q = absurd (let z : _≡_ {A = ℕ} 0 1 = cc in omega arith)
+    by : (d : Direction) {phase : Phase} → Active d phase
+        → n ≡ steps p (length header) (messageLength d p (length body)) % 2 ^ 64
+        → readEnd (Ok k) p (readerOf loads initial phase header body) .reader .phase ≡ Final f
+        → n ≡ endSteps phase p before f (readEnd (Ok k) p (readerOf loads initial phase header body) .reader)
+    by Encrypt in-init e q = let z : Encrypt ≡ f = cc in e ∙ to Encrypt z
+    by Encrypt in-aad e q = let z : Encrypt ≡ f = cc in e ∙ to Encrypt z
+    by Encrypt in-data e q = let z : Encrypt ≡ f = cc in e ∙ to Encrypt z
+    by Decrypt in-init e q = let z : Decrypt ≡ f = cc in e ∙ to Decrypt z
+    by Decrypt in-aad e q = let z : Decrypt ≡ f = cc in e ∙ to Decrypt z
+    by Decrypt in-data e q = let z : Decrypt ≡ f = cc in e ∙ to Decrypt z
 
 -- A reset that leads to Final, or stays there, is a sealing's.
 reset-count : (p : Params) (r : Reader) (phase : Phase) (d : Direction) → r .phase ≡ phase → resetIn phase r .phase ≡ Final d
-    → initialCount p phase (r .initial) ≡ stepsAfterInit p (Final d) (resetIn phase r .initial) % 2 ^ 64
-unfolding headCount stepsAfterInit
+    → stepsAfterInit p phase (r .initial) ≡ stepsAfterInit p (Final d) (resetIn phase r .initial)
+unfolding stepsAfterInit
 reset-count p r Uninitialized d h q = absurd (let z : _≡_ {A = ℕ} 0 1 = cc in omega arith)
 reset-count p r (Init f) d h q = refl
 reset-count p r (Aad f) d h q = refl
@@ -161,137 +116,75 @@ reset-count p r (Data Decrypt) d h q = refl
 reset-count p r (Final Encrypt) d h q = refl
 reset-count p r (Final Decrypt) d h q = refl
 
--- The engine's check of an end is the reader's.
-end-agrees : (v w : SparkleVariant) (r : Reader) (phase : Phase) (k available : ℕ) → w ≡ v → phase ≡ r .phase
-    → heldData (paramsOf v) (r .phase) k ≡ heldData (paramsOf v) (r .phase) (readerHeld (paramsOf v) r)
-    → endCheck (paramsOf w) phase k available ≡ endCheck (paramsOf v) (r .phase) (readerHeld (paramsOf v) r) available
-end-agrees v w r phase k available variant q h =
-    rw (variant, q, endCheck-held (paramsOf v) (r .phase) k (readerHeld (paramsOf v) r) available h)
-
-refused-steps : (k : AeadResult) (x : AeadError) (u : Public) (right : Bool) → k ≡ Err x → endNext k u right .steps ≡ u .steps
-refused-steps k x u right q = rw q
-
-taken-readable : (k : AeadResult) (n : ℕ) (u : Public) (right : Bool) → k ≡ Ok n → opening (u .current .phase) ≡ false
-    → endNext k u right .readable ≡ true
-taken-readable k n u right q sealing = rw (q, sealing)
-
 -- ---- The steps after a call
 
-module _ (v : SparkleVariant) (e : SparkleEngine) (r : Reader) (w : Invariant v e r) where
-  same-check : (out : List ℕ)
-      → endCheck (paramsOf (e .variant)) (e .current .phase) (e .current .held) (length out)
-      ≡ endCheck (paramsOf v) (r .phase) (readerHeld (paramsOf v) r) (length out)
-  same-check out =
-      let l = linked v e r w in
-      end-agrees v (e .variant) r (e .current .phase) (e .current .held) (length out) (l .variant) (l .phase) (l .held)
-
-  -- the tag of a sealing that has ended can be read
-  sealed-readable : (out : List ℕ) (k : ℕ) → endCheck (paramsOf v) (r .phase) (readerHeld (paramsOf v) r) (length out) ≡ Ok k
-      → opening (r .phase) ≡ false → step e (Call.Final out) .engine .mac .readable ≡ true
-  sealed-readable out k passed sealing =
-      ap (λ (u : Public). u .readable) (next-is e (Call.Final out))
-      ∙ taken-readable (endCheck (paramsOf (e .variant)) (e .current .phase) (e .current .held) (length out)) k (publicOf e)
-      (yes (asked e (Call.Final out))) (same-check out ∙ passed) (ap opening (linked v e r w .phase) ∙ sealing)
-
-  header-in-final : (input : List ℕ) (d : Direction) → r .phase ≡ Final d
-      → step e (Call.Aad input) .engine .steps .current ≡ e .steps .current
-  header-in-final input d q =
-      ap (λ (u : Public). u .steps .current) (next-is e (Call.Aad input))
-      ∙ ap (λ (s : Steps). s .current)
-      (header-steps (aadCheck (e .current .phase) (length input)) (publicOf e) (length input) d (linked v e r w .phase ∙ q))
-
-  data-in-final : (input out : List ℕ) (d : Direction) → r .phase ≡ Final d
-      → step e (Call.Data input out) .engine .steps .current ≡ e .steps .current
-  data-in-final input out d q =
-      ap (λ (u : Public). u .steps .current) (next-is e (Call.Data input out))
-      ∙ ap (λ (s : Steps). s .current)
-      (data-steps (paramsOf (e .variant)) (publicOf e) (e .current .phase) (e .current .held) (length input) (length out) d
-      (linked v e r w .phase ∙ q))
-
-  end-taken : (out : List ℕ) (d : Direction) (k : ℕ)
-      → endCheck (paramsOf v) (r .phase) (readerHeld (paramsOf v) r) (length out) ≡ Ok k → opening (r .phase) ≡ opens d
-      → read v r (Call.Final out) .reader .phase ≡ Final d
-      → step e (Call.Final out) .engine .steps .current
-      ≡ steps (paramsOf v) (length (read v r (Call.Final out) .reader .header))
-      (messageLength d (paramsOf v) (length (read v r (Call.Final out) .reader .body))) % 2 ^ 64
-  end-taken out d k passed o q =
-      let f = invariant-step v e r w (Call.Final out) in
-      let x = read v r (Call.Final out) .reader in
-      let st : PhaseInvariant (paramsOf v) (Final d) (x .loads) (x .initial) (x .header) (x .body) (f .mac) (f .count) =
-      subst (λ (phase : Phase). PhaseInvariant (paramsOf v) phase (x .loads) (x .initial) (x .header) (x .body) (f .mac) (f .count))
-      q (f .phase-invariant)
-      in
-      ap (λ (y : SparkleEngine). y .steps .current) (f .same-engine)
-      ∙ ended-count (paramsOf v) d (x .loads) (x .initial) (x .header) (x .body) (f .mac) (f .count) st
-      (λ h. sym (ap (λ (y : SparkleEngine). y .mac .readable) (f .same-engine)) ∙ sealed-readable out k passed (o ∙ ap opens h))
+module _ (v : SparkleVariant) (e : SparkleEngine) (r : Reader) (w : Invariant v e r) (n : Counted v (e .steps) r) where
+  -- in Final a call that is neither init nor reset changes nothing
+  same-steps : (c : Call) → Keeps c → (d : Direction) → r .phase ≡ Final d → stepsNow (step e c .engine) ≡ stepsNow e
+  same-steps c k d q =
+      ap stepsNow
+      (final-keeps e d
+      (ap (λ (x : SparkleEngine). x .current .phase) (w .same-engine)
+      ∙ phase-agrees (paramsOf v) (loadedKey r) (loadedNonce r) (r .header) (r .body) (r .phase) ∙ q)
+      c k)
 
   end-in-final : (out : List ℕ) (d : Direction) (k : AeadResult)
       → endCheck (paramsOf v) (r .phase) (readerHeld (paramsOf v) r) (length out) ≡ k
       → readEnd k (paramsOf v) r .reader .phase ≡ Final d
-      → step e (Call.Final out) .engine .steps .current
-      ≡ endSteps (r .phase) (paramsOf v) (e .steps .current) d (readEnd k (paramsOf v) r .reader)
-  unfolding read
-  end-in-final out d (Err x) c q =
-      ap (λ (u : Public). u .steps .current) (next-is e (Call.Final out))
-      ∙ ap (λ (s : Steps). s .current)
-      (refused-steps (endCheck (paramsOf (e .variant)) (e .current .phase) (e .current .held) (length out)) x (publicOf e)
-      (yes (asked e (Call.Final out))) (same-check out ∙ c))
-      ∙ sym (ap (λ (phase : Phase). endSteps phase (paramsOf v) (e .steps .current) d r) q)
-  end-in-final out d (Ok k) c q =
-      let p = paramsOf v in
-      let x : read v r (Call.Final out) .reader ≡ readEnd (Ok k) p r .reader = ap (λ (a : AeadResult). readEnd a p r .reader) c in
-      let o = direction (r .phase) p r d (readerHeld p r) (length out) k c q in
-      taken-steps (r .phase) p (readEnd (Ok k) p r .reader) d (step e (Call.Final out) .engine .steps .current) (e .steps .current)
-      (readerHeld p r) (length out) k c
-      (end-taken out d k c o (ap (λ (y : Reader). y .phase) x ∙ q)
-      ∙ ap (λ (y : Reader). steps p (length (y .header)) (messageLength d p (length (y .body))) % 2 ^ 64) x)
+      → stepsNow (step e (Call.Final out) .engine)
+      ≡ endSteps (r .phase) (paramsOf v) (stepsNow e) d (readEnd k (paramsOf v) r .reader)
+  end-in-final out d (Err x) passed q =
+      same-steps (Call.Final out) tt d q
+      ∙ sym (ap (λ (phase : Phase). endSteps phase (paramsOf v) (stepsNow e) d r) q)
+  end-in-final out d (Ok k) passed q =
+      let t = end-passed-active (paramsOf v) (r .phase) (readerHeld (paramsOf v) r) (length out) k passed in
+      taken-steps (paramsOf v) (t .0) (t .1) (r .loads) (r .initial) (r .header) (r .body) _ (stepsNow e) k
+      (end-counted v e r w n out k passed (t .1)) d q
 
   -- in Final the steps are those of the end, of the reset, or what they were
   steps-in-final : (c : Call) (d : Direction) → read v r c .reader .phase ≡ Final d
       → stepsNow (step e c .engine)
       ≡ finalSteps c (r .phase) (paramsOf v) (stepsNow e) d (read v r c .reader)
-  unfolding read stepsNow step
+  unfolding read
   steps-in-final (Call.Init f key nonce size h) d q =
       absurd (start-not-final (startCheck v f (length key) (length nonce) size (repeated r key nonce)) r f d key nonce h q)
   steps-in-final (Call.Aad input) d q =
-      header-in-final input d (header-final (aadCheck (r .phase) (length input)) r input d q)
+      same-steps (Call.Aad input) tt d (header-final (aadCheck (r .phase) (length input)) r input d q)
   steps-in-final (Call.Data input out) d q =
-      data-in-final input out d
+      same-steps (Call.Data input out) tt d
       (message-final (dataCheck (paramsOf v) (r .phase) (readerHeld (paramsOf v) r) (length input) (length out)) r input d q)
   steps-in-final (Call.Final out) d q =
       end-in-final out d (endCheck (paramsOf v) (r .phase) (readerHeld (paramsOf v) r) (length out)) refl q
-  steps-in-final Call.Reset d q = unfold resetEngine resetSteps in
-      ap (λ (x : SparkleEngine). x .steps .initial) (w .same-engine) ∙ reset-count (paramsOf v) r (r .phase) d refl q
-  steps-in-final Call.Mac d q = refl
-  steps-in-final (Call.Update n) d q = refl
-  steps-in-final (Call.Output n) d q = refl
+  steps-in-final Call.Reset d q = unfold stepsNow in unfold step in unfold resetEngine in unfold resetSteps in
+      n .initial ∙ ap (λ (m : ℕ). m % 2 ^ 64) (reset-count (paramsOf v) r (r .phase) d refl q)
+  steps-in-final Call.Mac d q = unfold step in refl
+  steps-in-final (Call.Update k) d q = unfold step in refl
+  steps-in-final (Call.Output k) d q = unfold step in refl
 
   steps-after : (c : Call)
       → stepsNow (step e c .engine)
       ≡ stepsIn (read v r c .reader .phase) (r .phase) (paramsOf v) (stepsNow e) c (read v r c .reader)
-  unfolding stepsNow
   steps-after c =
-      let f = invariant-step v e r w c in
       let q = read v r c .reader in
-      let n : step e c .engine .steps .current ≡ f .count = ap (λ (x : SparkleEngine). x .steps .current) (f .same-engine) in
-      n ∙ phase-count (paramsOf v) (q .phase) (r .phase) (q .loads) (q .initial) (q .header) (q .body)
-      (f .mac) (f .count) (stepsNow e) c (f .phase-invariant) (λ d h. sym n ∙ steps-in-final c d h)
+      phase-count (paramsOf v) (q .phase) (r .phase) (q .loads) (q .initial) (q .header) (q .body) _ (stepsNow e) c
+      (unfold stepsNow in counted-step v e r w n c .current) (steps-in-final c)
 
 engine-counts : (v : SparkleVariant) (calls : List Call) (e : SparkleEngine) (r : Reader) → Invariant v e r
-    → map (λ (l : Line). l .steps) (linesOf engine e calls) ≡ counts v r (stepsNow e) calls
+    → Counted v (e .steps) r → map (λ (l : Line). l .steps) (linesOf engine e calls) ≡ counts v r (stepsNow e) calls
 unfolding counts line
-engine-counts v [] e r w = refl
-engine-counts v (c ∷ calls) e r w =
-    let s = steps-after v e r w c in
+engine-counts v [] e r w n = refl
+engine-counts v (c ∷ calls) e r w n =
+    let s = steps-after v e r w n c in
     let q = read v r c .reader in
-    ap (λ (ns : List ℕ). stepsNow (step e c .engine) ∷ ns) (engine-counts v calls (step e c .engine) q (invariant-step v e r w c))
-    ∙ ap (λ (n : ℕ). n ∷ counts v q n calls) s
+    ap (λ (ns : List ℕ). stepsNow (step e c .engine) ∷ ns)
+    (engine-counts v calls (step e c .engine) q (invariant-step v e r w c) (counted-step v e r w n c))
+    ∙ ap (λ (m : ℕ). m ∷ counts v q m calls) s
 
 -- Demand 2, the steps.
 pub engine-counted : (v : SparkleVariant) (calls : List Call)
     → map (λ (l : Line). l .steps) (sheetOf engine v calls) ≡ counts v newReader 0 calls
 unfolding newEngine noSteps stepsNow
-engine-counted v calls = engine-counts v calls (newEngine v) newReader (invariant-new v)
+engine-counted v calls = engine-counts v calls (newEngine v) newReader (invariant-new v) (counted-new v)
 
 -- The same of the sheet of the engine's own calls.
 pub sheet-counted : (v : SparkleVariant) (calls : List Call)

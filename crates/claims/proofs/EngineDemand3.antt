@@ -14,6 +14,7 @@ use Rattle.tc_aead_cipher.specs.declared.phase.Phase.{Phase}
 use Rattle.tc_aead_cipher.specs.declared.phase.Phase.the-variants.{Uninitialized, Init, Aad, Data, Final}
 use Rattle.tc_aead_cipher.specs.declared.aead_error.AeadResult.the-variants.{Ok}
 use Rattle.tc_sparkle_aead.specs.declared.engine.Mac.{Mac}
+use Rattle.tc_sparkle_aead.specs.declared.engine.Steps.{Steps}
 use Rattle.tc_sparkle_aead.specs.declared.engine.SparkleEngine.{SparkleEngine}
 use Rattle.tc_aead_cipher.specs.Variant.{paramsOf}
 use Rattle.tc_aead_cipher.specs.Checks.{opening, keep, heldData, endCheck}
@@ -51,7 +52,7 @@ held-linked p key nonce header body (Aad d) = refl
 held-linked p key nonce header body (Data d) = ap (heldData p (Data d)) (held-agrees p key nonce header body d)
 held-linked p key nonce header body (Final d) = refl
 
-module _ (v : SparkleVariant) (loads : List Load) (initial header body : List ℕ) (mac : Mac) (n : ℕ)
+module _ (v : SparkleVariant) (loads : List Load) (initial header body : List ℕ) (mac : Mac) (s : Steps)
     (f : LoadsFit (paramsOf v) loads) where
   abbrev key : List ℕ
   key = lastKey loads
@@ -60,18 +61,18 @@ module _ (v : SparkleVariant) (loads : List Load) (initial header body : List �
   nonce = lastNonce loads
 
   -- an opening in a phase that takes an end, with a tag's bytes
-  tag-active : {phase : Phase} → Active Decrypt phase → PhaseInvariant (paramsOf v) phase loads initial header body mac n
+  tag-active : {phase : Phase} → Active Decrypt phase → PhaseInvariant (paramsOf v) phase loads header body mac
       → paramsOf v .key ≤ length body
-      → right (beginData (engineOf v (readerOf loads initial phase header body) mac n))
+      → right (beginData (engineOf v (readerOf loads initial phase header body) mac s))
       ≡ verified (paramsOf v) key nonce header body
   tag-active {phase} t st enough =
-      ap (λ (e : SparkleEngine). right e) (begin-data v loads initial f t header body mac n st)
-      ∙ opening-verified v loads initial f (active-loaded v loads initial f t header body mac n st) header body enough
+      ap (λ (e : SparkleEngine). right e) (begin-data v loads initial f t header body mac s st)
+      ∙ opening-verified v loads initial f (active-loaded v loads initial f t header body mac st) header body enough
 
-  tag-linked : (phase : Phase) → PhaseInvariant (paramsOf v) phase loads initial header body mac n → (available k : ℕ)
+  tag-linked : (phase : Phase) → PhaseInvariant (paramsOf v) phase loads header body mac → (available k : ℕ)
       → endCheck (paramsOf v) phase (readerHeld (paramsOf v) (readerOf loads initial phase header body)) available ≡ Ok k
       → opening phase ≡ true
-      → right (beginData (engineOf v (readerOf loads initial phase header body) mac n))
+      → right (beginData (engineOf v (readerOf loads initial phase header body) mac s))
       ≡ verified (paramsOf v) key nonce header body
   unfolding endCheck
   tag-linked Uninitialized st available k passed opens = absurd (let z : _≡_ {A = ℕ} 0 1 = cc in omega arith)
@@ -92,22 +93,22 @@ module _ (v : SparkleVariant) (loads : List Load) (initial header body : List �
       (readerHeld (paramsOf v) (readerOf loads initial (Data Decrypt) header body)) available k refl passed in
       tag-active in-data st (omega arith)
 
-module _ (v : SparkleVariant) (r : Reader) (mac : Mac) (n : ℕ)
+module _ (v : SparkleVariant) (r : Reader) (mac : Mac) (s : Steps)
     (f : LoadsFit (paramsOf v) (r .loads))
-    (st : PhaseInvariant (paramsOf v) (r .phase) (r .loads) (r .initial) (r .header) (r .body) mac n) where
-  engine-linked : Linked v (engineOf v r mac n) r
+    (st : PhaseInvariant (paramsOf v) (r .phase) (r .loads) (r .header) (r .body) mac) where
+  engine-linked : Linked v (engineOf v r mac s) r
   engine-linked =
       record {
         variant = refl;
         phase = phase-agrees (paramsOf v) (loadedKey r) (loadedNonce r) (r .header) (r .body) (r .phase);
         held = held-linked (paramsOf v) (loadedKey r) (loadedNonce r) (r .header) (r .body) (r .phase);
         pair = λ key nonce. repeats-agree (paramsOf v) (small v) (r .loads) f key nonce;
-        tag = tag-linked v (r .loads) (r .initial) (r .header) (r .body) mac n f (r .phase) st;
+        tag = tag-linked v (r .loads) (r .initial) (r .header) (r .body) mac s f (r .phase) st;
       }
 
 pub linked : (v : SparkleVariant) (e : SparkleEngine) (r : Reader) → Invariant v e r → Linked v e r
 linked v e r w =
-    subst (λ (x : SparkleEngine). Linked v x r) (sym (w .same-engine)) (engine-linked v r (w .mac) (w .count) (w .loads-fit) (w .phase-invariant))
+    subst (λ (x : SparkleEngine). Linked v x r) (sym (w .same-engine)) (engine-linked v r (w .mac) (w .steps) (w .loads-fit) (w .phase-invariant))
 
 pub keeps : (v : SparkleVariant) (e : SparkleEngine) (r : Reader) (c : Call) → Invariant v e r
     → Invariant v (step e c .engine) (read v r c .reader)

@@ -1,21 +1,19 @@
--- The invariant between the engine and the reader after a list of calls: what the engine is, from what the reader keeps,
--- and what holds in each phase; with the laws of the parts of a call on such an engine: its points, its step count, its
--- loads and its checks.
+-- The invariant between the engine and the reader after a list of calls: what the engine is but for its steps, from what
+-- the reader keeps, and what holds in each phase; with the laws of the parts of a call on such an engine: its points, its
+-- loads and its checks. StepInvariant has the steps.
 use mathlib.Core.Path.{_≡_, refl, sym, ap, ap₂, _∙_}
 use mathlib.Core.Bool.{Bool, true, false, cond, _&&_, _||_}
 use mathlib.Core.List.{List, [], _∷_, _++_}
-use Prim.Native.Nat.{ℕ, zero, suc, _+_, _-_, _*_, _%_, _^_, _≤_, _<_}
-use native.Mathlib.Nat.{mod-add-mod, add-mul}
+use Prim.Native.Nat.{ℕ, zero, suc, _+_, _-_, _*_, _≤_, _<_}
 use native.Mathlib.Omega.{arith}
 use lib.Dec.{ltb}
 use borrow.Author.Tests.{ltb-false}
 use lib.ListN.{length, take, length-take}
 use Rattle.schwaemm.specs.Bytes.{same, ifEmpty}
 use Rattle.schwaemm.specs.Blocks.{ready, after, given, held}
-use Rattle.schwaemm.specs.Schwaemm.{Params, Sizes, mixLast, initialise, absorbBlock, absorb, prepared, messageBlock, decrypt, tag, body as bodyOf, verified, leading, stepsOf, steps}
-use Rattle.schwaemm.proofs.Cut.{length-held, ready-cut}
+use Rattle.schwaemm.specs.Schwaemm.{Params, Sizes, mixLast, initialise, absorbBlock, absorb, prepared, messageBlock, decrypt, tag, body as bodyOf, verified, leading}
+use Rattle.schwaemm.proofs.Cut.{length-held}
 use Rattle.schwaemm.proofs.States.{stateLength, length-absorbBlock, length-messageBlock, length-initialise, length-prepared, length-mixLast}
-use Rattle.schwaemm.proofs.Steps.{steps-some}
 use Rattle.tc_aead_cipher.specs.declared.variant.SparkleVariant.{SparkleVariant}
 use Rattle.tc_aead_cipher.specs.declared.phase.Direction.{Direction}
 use Rattle.tc_aead_cipher.specs.declared.phase.Direction.the-variants.{Encrypt, Decrypt}
@@ -27,6 +25,7 @@ use Rattle.tc_aead_cipher.specs.declared.aead_error.AeadResult.the-variants.{Ok
 use Rattle.tc_sparkle_aead.specs.declared.message.Point.{Point}
 use Rattle.tc_sparkle_aead.specs.declared.engine.Pair.{Pair}
 use Rattle.tc_sparkle_aead.specs.declared.engine.Mac.{Mac}
+use Rattle.tc_sparkle_aead.specs.declared.engine.Steps.{Steps}
 use Rattle.tc_sparkle_aead.specs.declared.engine.SparkleEngine.{SparkleEngine}
 use Rattle.tc_aead_cipher.specs.Variant.{paramsOf}
 use Rattle.tc_aead_cipher.specs.Checks.{opening, keep, heldData, dataCheck, endCheck, updateLen, totalLen, phaseCheck, then, room, whole}
@@ -35,7 +34,7 @@ use Rattle.tc_sparkle_aead.specs.Engine.{noPair, repeats, remember, currentKey,
 use Rattle.tc_aead_cipher.proofs.VariantLaws.{Small}
 use Rattle.claims.specs.Reader.{Load, Reader, newReader, remembered, load, lastKey, lastNonce, among, loadedKey}
 use Rattle.claims.specs.Reader.{loadedNonce, headerPhase}
-use Rattle.claims.proofs.Points.{take-inArray, ready-zero, held-nil, blockPoint, blockPoint-nil, buffered-aad}
+use Rattle.claims.proofs.Points.{take-inArray, held-nil, blockPoint, blockPoint-nil, buffered-aad}
 use Rattle.claims.proofs.Points.{buffered-data, state-point, blockCount-point, put-point, streamed-point, given-point}
 
 -- ---- What the engine is, from what the reader keeps
@@ -67,40 +66,24 @@ abbrev pub pairIn : List Load → Pair
 pairIn [] = noPair
 pairIn (l ∷ loads) = remember (pairIn loads) (l .key) (l .nonce)
 
--- The steps of a message with a header of n bytes, before its data.
-unfoldable pub headCount : Params → ℕ → ℕ
-headCount p n = (p .big + leading p n * p .slim) % 2 ^ 64
-
-abbrev pub initialCount : Params → Phase → List ℕ → ℕ
-initialCount p Uninitialized initial = 0
-initialCount p (Init d) initial = headCount p (length initial)
-initialCount p (Aad d) initial = headCount p (length initial)
-initialCount p (Data d) initial = headCount p (length initial)
-initialCount p (Final d) initial = headCount p (length initial)
-
--- The steps in the data.
-unfoldable pub dataCount : Params → Direction → (header body : List ℕ) → ℕ
-dataCount p d header body =
-    (p .big + stepsOf p (length header) + ready (p .rate) (keep p (Data d)) (length body) * p .slim) % 2 ^ 64
-
-abbrev pub engineOf : SparkleVariant → Reader → Mac → ℕ → SparkleEngine
-engineOf v r mac n =
+-- The engine with a tag and steps, of which nothing is said here.
+abbrev pub engineOf : SparkleVariant → Reader → Mac → Steps → SparkleEngine
+engineOf v r mac s =
     record {
       variant = v;
       current = pointIn (paramsOf v) (r .phase) (loadedKey r) (loadedNonce r) (r .header) (r .body);
       initial = initialIn (paramsOf v) (r .phase) (loadedKey r) (loadedNonce r) (r .initial);
       pair = pairIn (r .loads);
       mac = mac;
-      steps = record { current = n; initial = initialCount (paramsOf v) (r .phase) (r .initial) };
+      steps = s;
     }
 
 -- ---- What holds in a phase
 
 -- A sealing in Final was reset or has ended.
-pub data SealingFinal (p : Params) (key nonce initial header body : List ℕ) (mac : Mac) (n : ℕ) : Type 0 where
-  was-reset : mac ≡ noMac → n ≡ headCount p (length initial) → SealingFinal p key nonce initial header body mac n
-  has-ended : mac ≡ readable (tag p key nonce header body) → n ≡ steps p (length header) (length body) % 2 ^ 64
-      → SealingFinal p key nonce initial header body mac n
+pub data SealingFinal (p : Params) (key nonce header body : List ℕ) (mac : Mac) : Type 0 where
+  was-reset : mac ≡ noMac → SealingFinal p key nonce header body mac
+  has-ended : mac ≡ readable (tag p key nonce header body) → SealingFinal p key nonce header body mac
 
 -- The tag that can be read after an opening's end.
 unfoldable pub openedMac : Params → (key nonce header packet : List ℕ) → Mac
@@ -113,19 +96,17 @@ abbrev pub isLoaded : List Load → Bool
 isLoaded [] = false
 isLoaded (l ∷ loads) = true
 
-abbrev pub PhaseInvariant : Params → Phase → List Load → (initial header body : List ℕ) → Mac → ℕ → Type 0
-PhaseInvariant p Uninitialized loads initial header body mac n = (mac ≡ noMac) × (n ≡ 0)
-PhaseInvariant p (Init d) loads initial header body mac n =
-    (isLoaded loads ≡ true) × (mac ≡ noMac) × (n ≡ headCount p (length header)) × (header ≡ []) × (body ≡ [])
-PhaseInvariant p (Aad d) loads initial header body mac n =
-    (isLoaded loads ≡ true) × (mac ≡ noMac) × (n ≡ headCount p (length header)) × (0 < length header) × (body ≡ [])
-PhaseInvariant p (Data d) loads initial header body mac n =
-    (isLoaded loads ≡ true) × (mac ≡ noMac) × (n ≡ dataCount p d header body)
-PhaseInvariant p (Final Encrypt) loads initial header body mac n =
-    (isLoaded loads ≡ true) × SealingFinal p (lastKey loads) (lastNonce loads) initial header body mac n
-PhaseInvariant p (Final Decrypt) loads initial header body mac n =
-    (isLoaded loads ≡ true) × (mac ≡ openedMac p (lastKey loads) (lastNonce loads) header body)
-    × (n ≡ steps p (length header) (length body - p .key) % 2 ^ 64) × (p .key ≤ length body)
+abbrev pub PhaseInvariant : Params → Phase → List Load → (header body : List ℕ) → Mac → Type 0
+PhaseInvariant p Uninitialized loads header body mac = mac ≡ noMac
+PhaseInvariant p (Init d) loads header body mac =
+    (isLoaded loads ≡ true) × (mac ≡ noMac) × (header ≡ []) × (body ≡ [])
+PhaseInvariant p (Aad d) loads header body mac =
+    (isLoaded loads ≡ true) × (mac ≡ noMac) × (0 < length header) × (body ≡ [])
+PhaseInvariant p (Data d) loads header body mac = (isLoaded loads ≡ true) × (mac ≡ noMac)
+PhaseInvariant p (Final Encrypt) loads header body mac =
+    (isLoaded loads ≡ true) × SealingFinal p (lastKey loads) (lastNonce loads) header body mac
+PhaseInvariant p (Final Decrypt) loads header body mac =
+    (isLoaded loads ≡ true) × (mac ≡ openedMac p (lastKey loads) (lastNonce loads) header body) × (p .key ≤ length body)
 
 -- the sizes of a loaded pair
 pub record Fits (p : Params) (key nonce : List ℕ) : Type 0 where
@@ -143,30 +124,23 @@ pub record LoadsFit (p : Params) (loads : List Load) : Type 0 where
 
 pub record Invariant (v : SparkleVariant) (e : SparkleEngine) (r : Reader) : Type 0 where
   pub mac : Mac
-  pub count : ℕ
-  pub same-engine : e ≡ engineOf v r mac count
+  pub steps : Steps
+  pub same-engine : e ≡ engineOf v r mac steps
   pub loads-fit : LoadsFit (paramsOf v) (r .loads)
-  pub phase-invariant : PhaseInvariant (paramsOf v) (r .phase) (r .loads) (r .initial) (r .header)
-      (r .body) mac count
+  pub phase-invariant : PhaseInvariant (paramsOf v) (r .phase) (r .loads) (r .header) (r .body) mac
 
 pub invariant-new : (v : SparkleVariant) → Invariant v (newEngine v) newReader
-unfolding newEngine noSteps
+unfolding newEngine
 invariant-new v =
     record {
       mac = noMac;
-      count = 0;
+      steps = noSteps;
       same-engine = refl;
       loads-fit = record { at-most = omega arith; all-fit = tt };
-      phase-invariant = (refl, refl);
+      phase-invariant = refl;
     }
 
 -- ---- The parts of a call
-
--- steps that are added are those of the blocks together
-counted : (base a b slim : ℕ) → ((base + a * slim) % 2 ^ 64 + b * slim) % 2 ^ 64 ≡ (base + (a + b) * slim) % 2 ^ 64
-counted base a b slim =
-    mod-add-mod (base + a * slim) (2 ^ 64) (b * slim)
-    ∙ ap (λ (n : ℕ). n % 2 ^ 64) (omega (arith, add-mul a b slim))
 
 module _ (p : Params) (h : Sizes p) (m : Small p) where
   -- the header
@@ -201,17 +175,13 @@ module _ (p : Params) (h : Sizes p) (m : Small p) where
           streamed-point p h m 0 (absorbBlock p) absorbed phase (initialise p key nonce) header begun holds (x ∷ input)
           (Aad d)
 
-      pub head-count :
-          (headCount p (length header) + headerSteps p (headPoint p phase key nonce header) (x ∷ input)) % 2 ^ 64
-          ≡ headCount p (length (header ++ (x ∷ input)))
-      unfolding headerSteps headPoint headCount leading
-      head-count =
-          rw (
-            blockCount-point p h m 0 (absorbBlock p) absorbed phase (initialise p key nonce) header begun holds (x ∷ input),
-            ready-cut (p .rate) 0 (h .rate-positive) header (x ∷ input),
-          )
-          (counted (p .big) (ready (p .rate) 0 (length header))
-          (ready (p .rate) 0 (length (held (p .rate) 0 header ++ (x ∷ input)))) (p .slim))
+      -- the blocks that go
+      pub head-runs : headerSteps p (headPoint p phase key nonce header) (x ∷ input)
+          ≡ ready (p .rate) 0 (length (held (p .rate) 0 header ++ (x ∷ input))) * p .slim
+      unfolding headerSteps headPoint
+      head-runs =
+          ap (λ (n : ℕ). n * p .slim)
+          (blockCount-point p h m 0 (absorbBlock p) absorbed phase (initialise p key nonce) header begun holds (x ∷ input))
 
     -- the header of a start
     pub started-point : (d : Direction) (header : List ℕ)
@@ -220,11 +190,6 @@ module _ (p : Params) (h : Sizes p) (m : Small p) where
     started-point d [] = start-head d
     started-point d (x ∷ header) =
         ap (λ (at : Point). absorbHeader p d at (x ∷ header)) (start-head d) ∙ head-point (Init d) [] (holds-init d) d x header
-
-    pub started-count : (d : Direction) (header : List ℕ)
-        → (p .big + headerSteps p (startPoint p d key nonce) header) % 2 ^ 64 ≡ headCount p (length header)
-    unfolding headerSteps blockCount stream buffered startPoint headCount leading
-    started-count d header = refl
 
     -- the header ends
     pub begin-point-init : (d : Direction)
@@ -269,21 +234,6 @@ module _ (p : Params) (h : Sizes p) (m : Small p) where
         ap (λ (w : List ℕ). record { phase = Data d; words = w; buffer = zeros 64; held = 0 }) (begin-words d header some)
         ∙ sym (blockPoint-nil p (keep p (Data d)) (messageBlock p (plainOf p (Data d))) (Data d)
         (prepared p key nonce header))
-
-  pub begin-count-init : (d : Direction) → (headCount p 0 + 0) % 2 ^ 64 ≡ dataCount p d [] []
-  unfolding headCount dataCount stepsOf leading
-  begin-count-init d =
-      mod-add-mod (p .big + ready (p .rate) 0 0 * p .slim) (2 ^ 64) 0
-      ∙ ap (λ (n : ℕ). n % 2 ^ 64)
-      (rw (ready-zero (p .rate) 0, ready-zero (p .rate) (keep p (Data d))) (omega arith))
-
-  pub begin-count-aad : (d : Direction) (header : List ℕ) → 0 < length header
-      → (headCount p (length header) + p .big) % 2 ^ 64 ≡ dataCount p d header []
-  unfolding headCount dataCount
-  begin-count-aad d header some =
-      mod-add-mod (p .big + leading p (length header) * p .slim) (2 ^ 64) (p .big)
-      ∙ ap (λ (n : ℕ). n % 2 ^ 64)
-      (rw (ready-zero (p .rate) (keep p (Data d)), steps-some p (length header) some) (omega arith))
 
   -- the data
   module _ (d : Direction) (key nonce header : List ℕ) where
@@ -333,20 +283,14 @@ module _ (p : Params) (h : Sizes p) (m : Small p) where
             (prepared p key nonce header) body
             prepared-state holds-data input
 
-        pub data-count :
-            (dataCount p d header body + blockCount p (keep p (Data d))
-            (dataPoint p d key nonce header body) input * p .slim) % 2 ^ 64
-            ≡ dataCount p d header (body ++ input)
-        unfolding dataPoint dataCount
-        data-count =
-            rw (
-              blockCount-point p h m (keep p (Data d)) (messageBlock p (plainOf p (Data d))) taken (Data d)
-                  (prepared p key nonce header) body
-                  prepared-state holds-data input,
-              ready-cut (p .rate) (keep p (Data d)) (h .rate-positive) body input,
-            )
-            (counted (p .big + stepsOf p (length header)) (ready (p .rate) (keep p (Data d)) (length body))
-            (ready (p .rate) (keep p (Data d)) (length (held (p .rate) (keep p (Data d)) body ++ input))) (p .slim))
+        -- the blocks that go
+        pub data-blocks : blockCount p (keep p (Data d)) (dataPoint p d key nonce header body) input
+            ≡ ready (p .rate) (keep p (Data d)) (length (held (p .rate) (keep p (Data d)) body ++ input))
+        unfolding dataPoint
+        data-blocks =
+            blockCount-point p h m (keep p (Data d)) (messageBlock p (plainOf p (Data d))) taken (Data d)
+            (prepared p key nonce header) body
+            prepared-state holds-data input
 
 -- ---- The loads
 

@@ -1,17 +1,15 @@
 -- Every call keeps the invariant, so after a list of calls the engine is a function of what the reader keeps, but for the
--- tag and, in Final, the steps. By cases on the call and the phase; refused calls leave both as they are, since their
--- checks agree.
+-- tag and the steps. By cases on the call and the phase; refused calls leave both as they are, since their checks agree.
 use mathlib.Core.Path.{_≡_, refl, sym, ap, ap₂, subst, _∙_}
 use mathlib.Core.Bool.{Bool, true, false, cond}
 use mathlib.Core.List.{List, [], _∷_, _++_, append-nil}
-use Prim.Native.Nat.{ℕ, suc, _+_, _-_, _%_, _^_, _≤_, _<_}
-use native.Mathlib.Nat.{mod-add-mod}
+use Prim.Native.Nat.{ℕ, suc, _*_, _≤_, _<_}
 use native.Mathlib.Omega.{arith}
 use borrow.Author.Tests.{ne-eqb}
 use lib.ListN.{length, length-append}
 use Rattle.schwaemm.specs.Bytes.{same}
 use Rattle.schwaemm.specs.Blocks.{held}
-use Rattle.schwaemm.specs.Schwaemm.{Params, Sizes, crypt, prepared, sealing, opening as openingBlock, beforeLast, lastBlock, tagOf, decrypt, tag, body as bodyOf, received, verified, leading, steps}
+use Rattle.schwaemm.specs.Schwaemm.{Params, Sizes, crypt, prepared, sealing, opening as openingBlock, beforeLast, lastBlock, tagOf, decrypt, tag, body as bodyOf, received, verified, leading}
 use Rattle.schwaemm.proofs.RoundTrip.{tag-of-opened}
 use Rattle.tc_aead_cipher.specs.declared.variant.SparkleVariant.{SparkleVariant}
 use Rattle.tc_aead_cipher.specs.declared.phase.Direction.{Direction}
@@ -23,11 +21,12 @@ use Rattle.tc_aead_cipher.specs.declared.aead_error.AeadResult.the-variants.{Ok
 use Rattle.tc_aead_cipher.specs.declared.aead_init_error.AeadInitResult.{AeadInitResult}
 use Rattle.tc_aead_cipher.specs.declared.aead_init_error.AeadInitResult.the-variants.{Ok as StartOk, Err as StartErr}
 use Rattle.tc_sparkle_aead.specs.declared.engine.Mac.{Mac}
+use Rattle.tc_sparkle_aead.specs.declared.engine.Steps.{Steps}
 use Rattle.tc_sparkle_aead.specs.declared.engine.SparkleEngine.{SparkleEngine}
 use Rattle.tc_aead_cipher.specs.Variant.{paramsOf}
-use Rattle.tc_aead_cipher.specs.Checks.{aadCheck, headerCheck, dataCheck, endCheck, startCheck, updateLen, totalLen}
-use Rattle.tc_sparkle_aead.specs.Message.{noMessage, noMac, stateIn, buffered, absorbHeader, headerSteps, plainOf, lastSteps, finalPoint, readable, afterHeader, plainBy, withoutHeader, sealTag, openBlock, receivedTag, openLast, openTag}
-use Rattle.tc_sparkle_aead.specs.Engine.{currentKey, noSteps, initSteps, refusedSteps, resetSteps, newEngine, updateOutputLen, outputLen}
+use Rattle.tc_aead_cipher.specs.Checks.{keep, aadCheck, headerCheck, dataCheck, endCheck, startCheck, updateLen, totalLen}
+use Rattle.tc_sparkle_aead.specs.Message.{noMessage, noMac, stateIn, buffered, blockCount, absorbHeader, plainOf, lastSteps, finalPoint, readable, afterHeader, plainBy, withoutHeader, sealTag, openBlock, receivedTag, openLast, openTag}
+use Rattle.tc_sparkle_aead.specs.Engine.{currentKey, refusedSteps, resetSteps, newEngine, updateOutputLen, outputLen}
 use Rattle.tc_sparkle_aead.specs.Calls.{addSteps, atPoint, refused, started, initBy, init, aadBy, processAadBytes, beginData, dataIn, dataBy, processBytes, finalEngine, sealFinal, openFinalBy, openFinal, finalBy, doFinal, dataAnswer, finalAnswer}
 use Rattle.tc_sparkle_aead.specs.Calls.{reset as resetEngine}
 use Rattle.tc_aead_cipher.proofs.VariantLaws.{sizes, small}
@@ -40,13 +39,13 @@ use Rattle.claims.specs.Reader.{read, readFrom, reader}
 use Rattle.claims.specs.Refused.{Active}
 use Rattle.claims.specs.Refused.Active.{in-init, in-aad, in-data}
 use Rattle.claims.proofs.Points.{blockPoint}
-use Rattle.claims.proofs.OpeningEnd.{last-state, last-steps, length-body, packet-blocks, packet-state, held-block}
+use Rattle.claims.proofs.OpeningEnd.{last-state, packet-state, held-block}
 use Rattle.claims.proofs.OpeningEnd.{held-received}
-use Rattle.claims.proofs.Invariant.{headPoint, dataPoint, pointIn, initialIn, pairIn, headCount, dataCount, engineOf}
+use Rattle.claims.proofs.Invariant.{headPoint, dataPoint, pointIn, initialIn, pairIn, engineOf}
 use Rattle.claims.proofs.Invariant.{openedMac, PhaseInvariant, Fits, Invariant, invariant-new, holds-init, holds-aad}
-use Rattle.claims.proofs.Invariant.{head-point, head-count, started-point, started-count, begin-point-init}
-use Rattle.claims.proofs.Invariant.{begin-point-aad, begin-count-init, begin-count-aad, holds-data, state-data}
-use Rattle.claims.proofs.Invariant.{data-point, data-count, isLoaded, LoadsFit, load-fits, pair-load, key-back}
+use Rattle.claims.proofs.Invariant.{head-point, started-point, begin-point-init}
+use Rattle.claims.proofs.Invariant.{begin-point-aad, holds-data, state-data}
+use Rattle.claims.proofs.Invariant.{data-point, isLoaded, LoadsFit, load-fits, pair-load, key-back}
 use Rattle.claims.proofs.Invariant.{repeats-agree, pointHeld, data-agrees, update-agrees, total-agrees, end-agrees}
 use Rattle.claims.proofs.Invariant.{phase-agrees, end-enough, SealingFinal}
 
@@ -57,9 +56,17 @@ abbrev pub readerOf : List Load → (initial : List ℕ) → Phase → (header b
 readerOf loads initial phase header body =
     record { phase = phase; loads = loads; initial = initial; header = header; body = body }
 
-abbrev pub inData : SparkleVariant → List Load → (initial : List ℕ) → Direction → (header body : List ℕ) → SparkleEngine
-inData v loads initial d header body =
-    engineOf v (readerOf loads initial (Data d) header body) noMac (dataCount (paramsOf v) d header body)
+abbrev pub inData : SparkleVariant → List Load → (initial : List ℕ) → Direction → (header body : List ℕ) → Steps
+    → SparkleEngine
+inData v loads initial d header body s = engineOf v (readerOf loads initial (Data d) header body) noMac s
+
+-- the steps when the data has begun
+abbrev pub begunSteps : Params → Phase → Steps → Steps
+begunSteps p Uninitialized s = s
+begunSteps p (Init d) s = addSteps 0 s
+begunSteps p (Aad d) s = addSteps (p .big) s
+begunSteps p (Data d) s = s
+begunSteps p (Final d) s = s
 
 module _ (v : SparkleVariant) where
   abbrev p : Params
@@ -76,12 +83,12 @@ module _ (v : SparkleVariant) where
     abbrev readerIn : Phase → (header body : List ℕ) → Reader
     readerIn phase header body = readerOf loads initial phase header body
 
-    abbrev dataEngine : Direction → (header body : List ℕ) → SparkleEngine
-    dataEngine d header body = inData v loads initial d header body
+    abbrev dataEngine : Direction → (header body : List ℕ) → Steps → SparkleEngine
+    dataEngine d header body s = inData v loads initial d header body s
 
     module _ (f : LoadsFit p loads) where
       -- a header begun anew
-      restart : (l : isLoaded loads ≡ true) (d : Direction) (first : List ℕ)
+      restart : (l : isLoaded loads ≡ true) (d : Direction) (first : List ℕ) (s : Steps)
           → Invariant v
           (record {
             variant = v;
@@ -89,41 +96,35 @@ module _ (v : SparkleVariant) where
             initial = headPoint p (headerPhase d first) key nonce first;
             pair = pairIn loads;
             mac = noMac;
-            steps = record { current = headCount p (length first); initial = headCount p (length first) };
+            steps = s;
           })
           (readerOf loads first (headerPhase d first) first [])
-      restart l d [] =
-          record { mac = noMac; count = headCount p 0; same-engine = refl; loads-fit = f; phase-invariant = (l, refl, refl, refl, refl) }
-      restart l d (x ∷ first) =
-          record {
-            mac = noMac;
-            count = headCount p (length (x ∷ first));
-            same-engine = refl;
-            loads-fit = f;
-            phase-invariant = (l, refl, refl, omega arith, refl);
-          }
+      restart l d [] s =
+          record { mac = noMac; steps = s; same-engine = refl; loads-fit = f; phase-invariant = (l, refl, refl, refl) }
+      restart l d (x ∷ first) s =
+          record { mac = noMac; steps = s; same-engine = refl; loads-fit = f; phase-invariant = (l, refl, omega arith, refl) }
 
       -- reset
-      reset-keeps : (phase : Phase) (header body : List ℕ) (mac : Mac) (n : ℕ)
-          → PhaseInvariant p phase loads initial header body mac n
-          → Invariant v (resetEngine (engineOf v (readerIn phase header body) mac n)) (resetIn phase (readerIn phase header body))
-      unfolding resetEngine resetSteps headPoint dataPoint blockPoint noMessage finalPoint
-      reset-keeps Uninitialized header body mac n st =
-          record { mac = noMac; count = 0; same-engine = refl; loads-fit = f; phase-invariant = (refl, refl) }
-      reset-keeps (Init d) header body mac n st = restart (st .0) d initial
-      reset-keeps (Aad d) header body mac n st = restart (st .0) d initial
-      reset-keeps (Data Encrypt) header body mac n st =
-          record { mac = noMac; count = headCount p (length initial); same-engine = refl; loads-fit = f; phase-invariant = (st .0, SealingFinal.was-reset refl refl) }
-      reset-keeps (Data Decrypt) header body mac n st = restart (st .0) Decrypt initial
-      reset-keeps (Final Encrypt) header body mac n st =
-          record { mac = noMac; count = headCount p (length initial); same-engine = refl; loads-fit = f; phase-invariant = (st .0, SealingFinal.was-reset refl refl) }
-      reset-keeps (Final Decrypt) header body mac n st = restart (st .0) Decrypt initial
+      reset-keeps : (phase : Phase) (header body : List ℕ) (mac : Mac) (s : Steps)
+          → PhaseInvariant p phase loads header body mac
+          → Invariant v (resetEngine (engineOf v (readerIn phase header body) mac s)) (resetIn phase (readerIn phase header body))
+      unfolding resetEngine headPoint dataPoint blockPoint noMessage finalPoint
+      reset-keeps Uninitialized header body mac s st =
+          record { mac = noMac; steps = resetSteps s; same-engine = refl; loads-fit = f; phase-invariant = refl }
+      reset-keeps (Init d) header body mac s st = restart (st .0) d initial (resetSteps s)
+      reset-keeps (Aad d) header body mac s st = restart (st .0) d initial (resetSteps s)
+      reset-keeps (Data Encrypt) header body mac s st =
+          record { mac = noMac; steps = resetSteps s; same-engine = refl; loads-fit = f; phase-invariant = (st .0, SealingFinal.was-reset refl) }
+      reset-keeps (Data Decrypt) header body mac s st = restart (st .0) Decrypt initial (resetSteps s)
+      reset-keeps (Final Encrypt) header body mac s st =
+          record { mac = noMac; steps = resetSteps s; same-engine = refl; loads-fit = f; phase-invariant = (st .0, SealingFinal.was-reset refl) }
+      reset-keeps (Final Decrypt) header body mac s st = restart (st .0) Decrypt initial (resetSteps s)
 
       -- the data begins
-      module _ (d : Direction) where
-        begin-init : beginData (engineOf v (readerIn (Init d) [] []) noMac (headCount p 0))
-            ≡ engineOf v (readerIn (Data d) [] []) noMac (dataCount p d [] [])
-        unfolding beginData atPoint addSteps headPoint dataPoint blockPoint withoutHeader afterHeader
+      module _ (d : Direction) (s : Steps) where
+        begin-init : beginData (engineOf v (readerIn (Init d) [] []) noMac s)
+            ≡ engineOf v (readerIn (Data d) [] []) noMac (addSteps 0 s)
+        unfolding beginData atPoint headPoint dataPoint blockPoint withoutHeader afterHeader
         begin-init =
             λ i. record {
               variant = v;
@@ -131,13 +132,13 @@ module _ (v : SparkleVariant) where
               initial = initialIn p (Data d) key nonce initial;
               pair = pairIn loads;
               mac = noMac;
-              steps = record { current = begin-count-init p (sizes v) (small v) d i; initial = headCount p (length initial) };
+              steps = addSteps 0 s;
             }
 
         begin-aad : (header : List ℕ) → 0 < length header
-            → beginData (engineOf v (readerIn (Aad d) header []) noMac (headCount p (length header)))
-            ≡ engineOf v (readerIn (Data d) header []) noMac (dataCount p d header [])
-        unfolding beginData atPoint addSteps headPoint dataPoint blockPoint withoutHeader afterHeader buffered held
+            → beginData (engineOf v (readerIn (Aad d) header []) noMac s)
+            ≡ engineOf v (readerIn (Data d) header []) noMac (addSteps (p .big) s)
+        unfolding beginData atPoint headPoint dataPoint blockPoint withoutHeader afterHeader buffered held
         begin-aad header some =
             λ i. record {
               variant = v;
@@ -145,13 +146,14 @@ module _ (v : SparkleVariant) where
               initial = initialIn p (Data d) key nonce initial;
               pair = pairIn loads;
               mac = noMac;
-              steps = record { current = begin-count-aad p (sizes v) (small v) d header some i; initial = headCount p (length initial) };
+              steps = addSteps (p .big) s;
             }
 
         pub data-in : (header body input : List ℕ)
-            → dataIn (engineOf v (readerIn (Data d) header body) noMac (dataCount p d header body)) input
-            ≡ engineOf v (readerIn (Data d) header (body ++ input)) noMac (dataCount p d header (body ++ input))
-        unfolding dataIn atPoint addSteps dataPoint blockPoint
+            → dataIn (inData v loads initial d header body s) input
+            ≡ inData v loads initial d header (body ++ input)
+            (addSteps (blockCount p (keep p (Data d)) (dataPoint p d key nonce header body) input * p .slim) s)
+        unfolding dataIn atPoint dataPoint blockPoint
         data-in header body input =
             λ i. record {
               variant = v;
@@ -159,48 +161,40 @@ module _ (v : SparkleVariant) where
               initial = initialIn p (Data d) key nonce initial;
               pair = pairIn loads;
               mac = noMac;
-              steps = record { current = data-count p (sizes v) (small v) d key nonce header body input i; initial = headCount p (length initial) };
+              steps = addSteps (blockCount p (keep p (Data d)) (dataPoint p d key nonce header body) input * p .slim) s;
             }
 
       -- a phase that takes data, in a direction
-      pub begin-data : {phase : Phase} {d : Direction} → Active d phase → (header body : List ℕ) (mac : Mac) (n : ℕ)
-          → PhaseInvariant p phase loads initial header body mac n
-          → beginData (engineOf v (readerIn phase header body) mac n)
-          ≡ engineOf v (readerIn (Data d) header body) noMac (dataCount p d header body)
+      pub begin-data : {phase : Phase} {d : Direction} → Active d phase → (header body : List ℕ) (mac : Mac) (s : Steps)
+          → PhaseInvariant p phase loads header body mac
+          → beginData (engineOf v (readerIn phase header body) mac s) ≡ inData v loads initial d header body (begunSteps p phase s)
       unfolding beginData dataPoint blockPoint withoutHeader afterHeader
-      begin-data {d = d} in-init header body mac n st =
-          (λ i. beginData (engineOf v (readerIn (Init d) (st .3 i) (st .4 i)) (st .1 i) ((st .2 ∙ ap (λ (l : List ℕ). headCount p (length l)) (st .3)) i)))
-          ∙ begin-init d
-          ∙ sym (λ i. engineOf v (readerIn (Data d) (st .3 i) (st .4 i)) noMac (dataCount p d (st .3 i) (st .4 i)))
-      begin-data {d = d} in-aad header body mac n st =
-          (λ i. beginData (engineOf v (readerIn (Aad d) header (st .4 i)) (st .1 i) (st .2 i)))
-          ∙ begin-aad d header (st .3)
-          ∙ sym (λ i. engineOf v (readerIn (Data d) header (st .4 i)) noMac (dataCount p d header (st .4 i)))
-      begin-data {d = d} in-data header body mac n st = λ i. engineOf v (readerIn (Data d) header body) (st .1 i) (st .2 i)
+      begin-data {d = d} in-init header body mac s st =
+          (λ i. beginData (engineOf v (readerIn (Init d) (st .2 i) (st .3 i)) (st .1 i) s))
+          ∙ begin-init d s
+          ∙ sym (λ i. engineOf v (readerIn (Data d) (st .2 i) (st .3 i)) noMac (addSteps 0 s))
+      begin-data {d = d} in-aad header body mac s st =
+          (λ i. beginData (engineOf v (readerIn (Aad d) header (st .3 i)) (st .1 i) s))
+          ∙ begin-aad d s header (st .2)
+          ∙ sym (λ i. engineOf v (readerIn (Data d) header (st .3 i)) noMac (addSteps (p .big) s))
+      begin-data {d = d} in-data header body mac s st = λ i. engineOf v (readerIn (Data d) header body) (st .1 i) s
 
-      pub active-loaded : {phase : Phase} {d : Direction} → Active d phase → (header body : List ℕ) (mac : Mac) (n : ℕ)
-          → PhaseInvariant p phase loads initial header body mac n → isLoaded loads ≡ true
-      active-loaded in-init header body mac n st = st .0
-      active-loaded in-aad header body mac n st = st .0
-      active-loaded in-data header body mac n st = st .0
+      pub active-loaded : {phase : Phase} {d : Direction} → Active d phase → (header body : List ℕ) (mac : Mac)
+          → PhaseInvariant p phase loads header body mac → isLoaded loads ≡ true
+      active-loaded in-init header body mac st = st .0
+      active-loaded in-aad header body mac st = st .0
+      active-loaded in-data header body mac st = st .0
 
       -- a header call
-      more-header : (d : Direction) (l : isLoaded loads ≡ true) (header body input : List ℕ) (e : SparkleEngine)
+      more-header : (d : Direction) (l : isLoaded loads ≡ true) (header body input : List ℕ) (s : Steps) (e : SparkleEngine)
           → 0 < length (header ++ input) → body ≡ []
-          → e ≡ engineOf v (readerIn (Aad d) (header ++ input) body) noMac (headCount p (length (header ++ input)))
+          → e ≡ engineOf v (readerIn (Aad d) (header ++ input) body) noMac s
           → Invariant v e (readerIn (Aad d) (header ++ input) body)
-      more-header d l header body input e some none is =
-          record {
-            mac = noMac;
-            count = headCount p (length (header ++ input));
-            same-engine = is;
-            loads-fit = f;
-            phase-invariant = (l, refl, refl, some, none);
-          }
+      more-header d l header body input s e some none is =
+          record { mac = noMac; steps = s; same-engine = is; loads-fit = f; phase-invariant = (l, refl, some, none) }
 
-      header-in : (phase : Phase) (d : Direction) (header body : List ℕ) (mac : Mac) (n : ℕ) (x : ℕ) (input : List ℕ)
-          → buffered p (headPoint p phase key nonce header) ≡ held (p .rate) 0 header
-          → mac ≡ noMac → n ≡ headCount p (length header)
+      header-in : (phase : Phase) (d : Direction) (header body : List ℕ) (mac : Mac) (s : Steps) (x : ℕ) (input : List ℕ)
+          → buffered p (headPoint p phase key nonce header) ≡ held (p .rate) 0 header → mac ≡ noMac
           → _≡_ {A = SparkleEngine}
           (record {
             variant = v;
@@ -208,92 +202,66 @@ module _ (v : SparkleVariant) where
             initial = initialIn p (Aad d) key nonce initial;
             pair = pairIn loads;
             mac = mac;
-            steps =
-                record {
-                  current = (n + headerSteps p (headPoint p phase key nonce header) (x ∷ input)) % 2 ^ 64;
-                  initial = headCount p (length initial);
-                };
+            steps = s;
           })
-          (engineOf v (readerIn (Aad d) (header ++ (x ∷ input)) body) noMac (headCount p (length (header ++ (x ∷ input)))))
-      header-in phase d header body mac n x input holds no-mac counts =
+          (engineOf v (readerIn (Aad d) (header ++ (x ∷ input)) body) noMac s)
+      header-in phase d header body mac s x input holds no-mac =
           λ i. record {
             variant = v;
             current = head-point p (sizes v) (small v) key nonce phase header holds d x input i;
             initial = initialIn p (Aad d) key nonce initial;
             pair = pairIn loads;
             mac = no-mac i;
-            steps =
-                record {
-                  current =
-                      (ap (λ (c : ℕ). (c + headerSteps p (headPoint p phase key nonce header) (x ∷ input)) % 2 ^ 64) counts
-                      ∙ head-count p (sizes v) (small v) key nonce phase header holds d x input) i;
-                  initial = headCount p (length initial);
-                };
+            steps = s;
           }
 
-      header-keeps : (phase : Phase) (header body : List ℕ) (mac : Mac) (n : ℕ)
-          → PhaseInvariant p phase loads initial header body mac n → (x : ℕ) (input : List ℕ)
-          → Invariant v (aadBy (headerCheck phase) (engineOf v (readerIn phase header body) mac n) (x ∷ input) .engine)
+      header-keeps : (phase : Phase) (header body : List ℕ) (mac : Mac) (s : Steps)
+          → PhaseInvariant p phase loads header body mac → (x : ℕ) (input : List ℕ)
+          → Invariant v (aadBy (headerCheck phase) (engineOf v (readerIn phase header body) mac s) (x ∷ input) .engine)
           (readHeader (headerCheck phase) (readerIn phase header body) (x ∷ input) .reader)
-      unfolding atPoint addSteps headPoint blockPoint
-      header-keeps Uninitialized header body mac n st x input =
-          record { mac = mac; count = n; same-engine = refl; loads-fit = f; phase-invariant = st }
-      header-keeps (Init d) header body mac n st x input =
-          more-header d (st .0) header body (x ∷ input) _ (simp length-append (omega arith)) (st .4)
-          (header-in (Init d) d header body mac n x input
-          (ap (λ (l : List ℕ). buffered p (headPoint p (Init d) key nonce l)) (st .3)
-          ∙ holds-init p (sizes v) (small v) key nonce d ∙ ap (held (p .rate) 0) (sym (st .3)))
-          (st .1) (st .2))
-      header-keeps (Aad d) header body mac n st x input =
-          more-header d (st .0) header body (x ∷ input) _ (simp length-append (omega arith)) (st .4)
-          (header-in (Aad d) d header body mac n x input (holds-aad p (sizes v) (small v) key nonce d header) (st .1)
-          (st .2))
-      header-keeps (Data d) header body mac n st x input =
-          record { mac = mac; count = n; same-engine = refl; loads-fit = f; phase-invariant = st }
-      header-keeps (Final d) header body mac n st x input =
-          record { mac = mac; count = n; same-engine = refl; loads-fit = f; phase-invariant = st }
+      unfolding atPoint headPoint blockPoint
+      header-keeps Uninitialized header body mac s st x input =
+          record { mac = mac; steps = s; same-engine = refl; loads-fit = f; phase-invariant = st }
+      header-keeps (Init d) header body mac s st x input =
+          more-header d (st .0) header body (x ∷ input) _ _ (simp length-append (omega arith)) (st .3)
+          (header-in (Init d) d header body mac _ x input
+          (ap (λ (l : List ℕ). buffered p (headPoint p (Init d) key nonce l)) (st .2)
+          ∙ holds-init p (sizes v) (small v) key nonce d ∙ ap (held (p .rate) 0) (sym (st .2)))
+          (st .1))
+      header-keeps (Aad d) header body mac s st x input =
+          more-header d (st .0) header body (x ∷ input) _ _ (simp length-append (omega arith)) (st .3)
+          (header-in (Aad d) d header body mac _ x input (holds-aad p (sizes v) (small v) key nonce d header) (st .1))
+      header-keeps (Data d) header body mac s st x input =
+          record { mac = mac; steps = s; same-engine = refl; loads-fit = f; phase-invariant = st }
+      header-keeps (Final d) header body mac s st x input =
+          record { mac = mac; steps = s; same-engine = refl; loads-fit = f; phase-invariant = st }
 
       -- a data call
-      into-data : (d : Direction) (l : isLoaded loads ≡ true) (header body input : List ℕ) (e : SparkleEngine)
-          → e ≡ engineOf v (readerIn (Data d) header body) noMac (dataCount p d header body)
-          → Invariant v (dataIn e input) (readerIn (Data d) header (body ++ input))
-      into-data d l header body input e is =
+      into-data : (d : Direction) (l : isLoaded loads ≡ true) (header body input : List ℕ) (s : Steps) (e : SparkleEngine)
+          → e ≡ dataEngine d header body s → Invariant v (dataIn e input) (readerIn (Data d) header (body ++ input))
+      into-data d l header body input s e is =
           record {
             mac = noMac;
-            count = dataCount p d header (body ++ input);
-            same-engine = ap (λ (x : SparkleEngine). dataIn x input) is ∙ data-in d header body input;
+            steps = addSteps (blockCount p (keep p (Data d)) (dataPoint p d key nonce header body) input * p .slim) s;
+            same-engine = ap (λ (x : SparkleEngine). dataIn x input) is ∙ data-in d s header body input;
             loads-fit = f;
-            phase-invariant = (l, refl, refl);
+            phase-invariant = (l, refl);
           }
 
-      data-keeps : {phase : Phase} {d : Direction} → Active d phase → (header body : List ℕ) (mac : Mac) (n : ℕ)
-          → PhaseInvariant p phase loads initial header body mac n → (input : List ℕ) (k : AeadResult)
-          → Invariant v (dataBy k (engineOf v (readerIn phase header body) mac n) input .engine)
+      data-keeps : {phase : Phase} {d : Direction} → Active d phase → (header body : List ℕ) (mac : Mac) (s : Steps)
+          → PhaseInvariant p phase loads header body mac → (input : List ℕ) (k : AeadResult)
+          → Invariant v (dataBy k (engineOf v (readerIn phase header body) mac s) input .engine)
           (readMessage k (readerIn phase header body) input .reader)
-      data-keeps t header body mac n st input (Err x) =
-          record { mac = mac; count = n; same-engine = refl; loads-fit = f; phase-invariant = st }
-      data-keeps {d = d} in-init header body mac n st input (Ok k) =
-          into-data d (st .0) header body input _ (begin-data {d = d} in-init header body mac n st)
-      data-keeps {d = d} in-aad header body mac n st input (Ok k) =
-          into-data d (st .0) header body input _ (begin-data {d = d} in-aad header body mac n st)
-      data-keeps {d = d} in-data header body mac n st input (Ok k) =
-          into-data d (st .0) header body input _ (begin-data {d = d} in-data header body mac n st)
+      data-keeps t header body mac s st input (Err x) =
+          record { mac = mac; steps = s; same-engine = refl; loads-fit = f; phase-invariant = st }
+      data-keeps {d = d} in-init header body mac s st input (Ok k) =
+          into-data d (st .0) header body input _ _ (begin-data {d = d} in-init header body mac s st)
+      data-keeps {d = d} in-aad header body mac s st input (Ok k) =
+          into-data d (st .0) header body input _ _ (begin-data {d = d} in-aad header body mac s st)
+      data-keeps {d = d} in-data header body mac s st input (Ok k) =
+          into-data d (st .0) header body input _ _ (begin-data {d = d} in-data header body mac s st)
 
       -- the end
-      end-engine : (d : Direction) (header body : List ℕ) (mac : Mac) (k c : ℕ) → (dataCount p d header body + k) % 2 ^ 64
-          ≡ c
-          → finalEngine (dataEngine d header body) d mac k ≡ engineOf v (readerIn (Final d) header body) mac c
-      unfolding finalEngine addSteps
-      end-engine d header body mac k c e =
-          λ i. record {
-            variant = v;
-            current = finalPoint d;
-            initial = initialIn p (Data d) key nonce initial;
-            pair = pairIn loads;
-            mac = mac;
-            steps = record { current = e i; initial = headCount p (length initial) };
-          }
-
       module _ (l : isLoaded loads ≡ true) (header body : List ℕ) where
         current-key : currentKey p (pairIn loads) ≡ key
         current-key = key-back p (small v) loads f l
@@ -315,24 +283,14 @@ module _ (v : SparkleVariant) where
             (ap (tagOf p key)
             (last-state p (sealing p) (prepared p key nonce header) body))
 
-        sealing-count :
-            (dataCount p Encrypt header body + lastSteps p (buffered p (dataPoint p Encrypt key nonce header body))) % 2 ^ 64
-            ≡ steps p (length header) (length body) % 2 ^ 64
-        unfolding dataCount steps leading
-        sealing-count =
-            rw sealing-block
-            (mod-add-mod _ (2 ^ 64) (lastSteps p (lastBlock p body))
-            ∙ ap (λ (k : ℕ). k % 2 ^ 64) (omega (arith, last-steps p body)))
-
-        pub seal-engine : (k : ℕ)
-            → sealFinal (dataEngine Encrypt header body) k .engine
+        pub seal-engine : (s : Steps) (k : ℕ)
+            → sealFinal (dataEngine Encrypt header body s) k .engine
             ≡ engineOf v (readerIn (Final Encrypt) header body) (readable (tag p key nonce header body))
-            (steps p (length header) (length body) % 2 ^ 64)
-        unfolding sealFinal
-        seal-engine k =
-            ap (λ (t : List ℕ). finalEngine (dataEngine Encrypt header body) Encrypt (readable t)
+            (addSteps (lastSteps p (buffered p (dataPoint p Encrypt key nonce header body))) s)
+        unfolding sealFinal finalEngine
+        seal-engine s k =
+            ap (λ (t : List ℕ). finalEngine (dataEngine Encrypt header body s) Encrypt (readable t)
             (lastSteps p (buffered p (dataPoint p Encrypt key nonce header body)))) sealing-tag
-            ∙ end-engine Encrypt header body _ _ _ sealing-count
 
         -- an opening
         module _ (enough : p .key ≤ length body) where
@@ -377,103 +335,94 @@ module _ (v : SparkleVariant) where
           unfolding verified
           opening-verified = ap₂ same opening-received opening-tag
 
-          opening-count :
-              (dataCount p Decrypt header body + lastSteps p (openBlock p (dataPoint p Decrypt key nonce header body))) % 2 ^ 64
-              ≡ steps p (length header) (length body - p .key) % 2 ^ 64
-          unfolding dataCount steps
-          opening-count =
-              rw (opening-block, packet-blocks p body enough, ← length-body p body enough)
-              (mod-add-mod _ (2 ^ 64) (lastSteps p (lastBlock p (bodyOf p body)))
-              ∙ ap (λ (k : ℕ). k % 2 ^ 64) (omega (arith, last-steps p (bodyOf p body))))
-
-          pub open-engine : (k : ℕ)
-              → openFinal (dataEngine Decrypt header body) k .engine
+          pub open-engine : (s : Steps) (k : ℕ)
+              → openFinal (dataEngine Decrypt header body s) k .engine
               ≡ engineOf v (readerIn (Final Decrypt) header body) (openedMac p key nonce header body)
-              (steps p (length header) (length body - p .key) % 2 ^ 64)
-          unfolding openFinal openedMac
-          open-engine k =
-              ap (λ (b : Bool). openFinalBy b (dataEngine Decrypt header body) k .engine) opening-verified ∙ by
+              (addSteps (lastSteps p (openBlock p (dataPoint p Decrypt key nonce header body))) s)
+          unfolding openFinal finalEngine openedMac
+          open-engine s k =
+              ap (λ (b : Bool). openFinalBy b (dataEngine Decrypt header body s) k .engine) opening-verified ∙ by
               (verified p key nonce header body)
             where
-              by : (b : Bool) → openFinalBy b (dataEngine Decrypt header body) k .engine
+              by : (b : Bool) → openFinalBy b (dataEngine Decrypt header body s) k .engine
                   ≡ engineOf v (readerIn (Final Decrypt) header body)
                   (cond b (readable (tag p key nonce header (decrypt p key nonce header (bodyOf p body)))) noMac)
-                  (steps p (length header) (length body - p .key) % 2 ^ 64)
+                  (addSteps (lastSteps p (openBlock p (dataPoint p Decrypt key nonce header body))) s)
               by true =
-                  ap (λ (t : List ℕ). finalEngine (dataEngine Decrypt header body) Decrypt (readable t)
+                  ap (λ (t : List ℕ). finalEngine (dataEngine Decrypt header body s) Decrypt (readable t)
                   (lastSteps p (openBlock p (dataPoint p Decrypt key nonce header body)))) opening-tag
-                  ∙ end-engine Decrypt header body _ _ _ opening-count
-              by false = end-engine Decrypt header body _ _ _ opening-count
+              by false = refl
 
-        sealed-keeps : (k : ℕ) (e : SparkleEngine) → e ≡ dataEngine Encrypt header body
+        sealed-keeps : (s : Steps) (k : ℕ) (e : SparkleEngine) → e ≡ dataEngine Encrypt header body s
             → Invariant v (sealFinal e k .engine) (readerIn (Final Encrypt) header body)
-        sealed-keeps k e is =
+        sealed-keeps s k e is =
             record {
               mac = readable (tag p key nonce header body);
-              count = steps p (length header) (length body) % 2 ^ 64;
-              same-engine = ap (λ (x : SparkleEngine). sealFinal x k .engine) is ∙ seal-engine k;
+              steps = addSteps (lastSteps p (buffered p (dataPoint p Encrypt key nonce header body))) s;
+              same-engine = ap (λ (x : SparkleEngine). sealFinal x k .engine) is ∙ seal-engine s k;
               loads-fit = f;
-              phase-invariant = (l, SealingFinal.has-ended refl refl);
+              phase-invariant = (l, SealingFinal.has-ended refl);
             }
 
-        opened-keeps : p .key ≤ length body → (k : ℕ) (e : SparkleEngine) → e ≡ dataEngine Decrypt header body
+        opened-keeps : p .key ≤ length body → (s : Steps) (k : ℕ) (e : SparkleEngine) → e ≡ dataEngine Decrypt header body s
             → Invariant v (openFinal e k .engine) (readerIn (Final Decrypt) header body)
-        opened-keeps enough k e is =
+        opened-keeps enough s k e is =
             record {
               mac = openedMac p key nonce header body;
-              count = steps p (length header) (length body - p .key) % 2 ^ 64;
-              same-engine = ap (λ (x : SparkleEngine). openFinal x k .engine) is ∙ open-engine enough k;
+              steps = addSteps (lastSteps p (openBlock p (dataPoint p Decrypt key nonce header body))) s;
+              same-engine = ap (λ (x : SparkleEngine). openFinal x k .engine) is ∙ open-engine enough s k;
               loads-fit = f;
-              phase-invariant = (l, refl, refl, enough);
+              phase-invariant = (l, refl, enough);
             }
 
-      seal-keeps : {phase : Phase} → Active Encrypt phase → (header body : List ℕ) (mac : Mac) (n : ℕ)
-          → PhaseInvariant p phase loads initial header body mac n → (k : AeadResult)
-          → Invariant v (finalBy k (engineOf v (readerIn phase header body) mac n) .engine)
+      seal-keeps : {phase : Phase} → Active Encrypt phase → (header body : List ℕ) (mac : Mac) (s : Steps)
+          → PhaseInvariant p phase loads header body mac → (k : AeadResult)
+          → Invariant v (finalBy k (engineOf v (readerIn phase header body) mac s) .engine)
           (readEnd k p (readerIn phase header body) .reader)
       unfolding headPoint dataPoint blockPoint
-      seal-keeps t header body mac n st (Err x) =
-          record { mac = mac; count = n; same-engine = refl; loads-fit = f; phase-invariant = st }
-      seal-keeps in-init header body mac n st (Ok k) =
-          sealed-keeps (st .0) header body k _ (begin-data {d = Encrypt} in-init header body mac n st)
-      seal-keeps in-aad header body mac n st (Ok k) =
-          sealed-keeps (st .0) header body k _ (begin-data {d = Encrypt} in-aad header body mac n st)
-      seal-keeps in-data header body mac n st (Ok k) =
-          sealed-keeps (st .0) header body k _ (begin-data {d = Encrypt} in-data header body mac n st)
+      seal-keeps t header body mac s st (Err x) =
+          record { mac = mac; steps = s; same-engine = refl; loads-fit = f; phase-invariant = st }
+      seal-keeps in-init header body mac s st (Ok k) =
+          sealed-keeps (st .0) header body _ k _ (begin-data {d = Encrypt} in-init header body mac s st)
+      seal-keeps in-aad header body mac s st (Ok k) =
+          sealed-keeps (st .0) header body _ k _ (begin-data {d = Encrypt} in-aad header body mac s st)
+      seal-keeps in-data header body mac s st (Ok k) =
+          sealed-keeps (st .0) header body _ k _ (begin-data {d = Encrypt} in-data header body mac s st)
 
-      open-keeps : {phase : Phase} → Active Decrypt phase → (header body : List ℕ) (mac : Mac) (n : ℕ)
-          → PhaseInvariant p phase loads initial header body mac n → (k : AeadResult)
+      open-keeps : {phase : Phase} → Active Decrypt phase → (header body : List ℕ) (mac : Mac) (s : Steps)
+          → PhaseInvariant p phase loads header body mac → (k : AeadResult)
           → ((j : ℕ) → k ≡ Ok j → p .key ≤ length body)
-          → Invariant v (finalBy k (engineOf v (readerIn phase header body) mac n) .engine)
+          → Invariant v (finalBy k (engineOf v (readerIn phase header body) mac s) .engine)
           (readEnd k p (readerIn phase header body) .reader)
       unfolding headPoint dataPoint blockPoint
-      open-keeps t header body mac n st (Err x) enough =
-          record { mac = mac; count = n; same-engine = refl; loads-fit = f; phase-invariant = st }
-      open-keeps in-init header body mac n st (Ok k) enough =
-          opened-keeps (st .0) header body (enough k refl) k _ (begin-data {d = Decrypt} in-init header body mac n st)
-      open-keeps in-aad header body mac n st (Ok k) enough =
-          opened-keeps (st .0) header body (enough k refl) k _ (begin-data {d = Decrypt} in-aad header body mac n st)
-      open-keeps in-data header body mac n st (Ok k) enough =
-          opened-keeps (st .0) header body (enough k refl) k _ (begin-data {d = Decrypt} in-data header body mac n st)
+      open-keeps t header body mac s st (Err x) enough =
+          record { mac = mac; steps = s; same-engine = refl; loads-fit = f; phase-invariant = st }
+      open-keeps in-init header body mac s st (Ok k) enough =
+          opened-keeps (st .0) header body (enough k refl) _ k _ (begin-data {d = Decrypt} in-init header body mac s st)
+      open-keeps in-aad header body mac s st (Ok k) enough =
+          opened-keeps (st .0) header body (enough k refl) _ k _ (begin-data {d = Decrypt} in-aad header body mac s st)
+      open-keeps in-data header body mac s st (Ok k) enough =
+          opened-keeps (st .0) header body (enough k refl) _ k _ (begin-data {d = Decrypt} in-data header body mac s st)
 
 -- a start
-start-keeps : (v : SparkleVariant) (r : Reader) (mac : Mac) (n : ℕ)
+start-keeps : (v : SparkleVariant) (r : Reader) (mac : Mac) (s : Steps)
     → (LoadsFit (paramsOf v) (r .loads))
     → (d : Direction) (key nonce header : List ℕ) (k : AeadInitResult) → (k ≡ StartOk → Fits (paramsOf v) key nonce)
-    → Invariant v (initBy k (engineOf v r mac n) d key nonce header .engine) (readStart k r d key nonce header .reader)
-unfolding started refused initSteps refusedSteps noSteps
-start-keeps v r mac n f d key nonce header (StartErr x) g =
-    record { mac = noMac; count = 0; same-engine = refl; loads-fit = f; phase-invariant = (refl, refl) }
-start-keeps v r mac n f d key nonce header StartOk g =
+    → Invariant v (initBy k (engineOf v r mac s) d key nonce header .engine) (readStart k r d key nonce header .reader)
+unfolding started refused
+start-keeps v r mac s f d key nonce header (StartErr x) g =
+    record { mac = noMac; steps = refusedSteps s; same-engine = refl; loads-fit = f; phase-invariant = refl }
+start-keeps v r mac s f d key nonce header StartOk g =
     let p = paramsOf v in
-    let e : started (engineOf v r mac n) d key nonce header
+    let n = started (engineOf v r mac s) d key nonce header .steps in
+    let e : started (engineOf v r mac s) d key nonce header
     ≡ record {
       variant = v;
       current = headPoint p (headerPhase d header) key nonce header;
       initial = headPoint p (headerPhase d header) key nonce header;
       pair = pairIn (load (r .loads) key nonce);
       mac = noMac;
-      steps = record { current = headCount p (length header); initial = headCount p (length header) };
+      steps = n;
     } =
     λ i. record {
       variant = v;
@@ -481,15 +430,11 @@ start-keeps v r mac n f d key nonce header StartOk g =
       initial = started-point p (sizes v) (small v) key nonce d header i;
       pair = pair-load (r .loads) key nonce i;
       mac = noMac;
-      steps =
-          record {
-            current = started-count p (sizes v) (small v) key nonce d header i;
-            initial = started-count p (sizes v) (small v) key nonce d header i;
-          };
+      steps = n;
     }
     in
     subst (λ (x : SparkleEngine). Invariant v x (readStart StartOk r d key nonce header .reader)) (sym e)
-    (restart v (load (r .loads) key nonce) header (load-fits p (r .loads) key nonce f (g refl)) refl d header)
+    (restart v (load (r .loads) key nonce) header (load-fits p (r .loads) key nonce f (g refl)) refl d header n)
 
 -- ---- A call
 
@@ -499,28 +444,28 @@ aad-some phase n = rw (ne-eqb (suc n) 0 (λ e. omega arith))
 
 -- a data call and an end, by the phase
 message-step : (v : SparkleVariant) (phase : Phase) (loads : List Load) (initial header body : List ℕ) (mac : Mac)
-    (n : ℕ)
-    → (LoadsFit (paramsOf v) loads) → PhaseInvariant (paramsOf v) phase loads initial header body mac n
+    (s : Steps)
+    → (LoadsFit (paramsOf v) loads) → PhaseInvariant (paramsOf v) phase loads header body mac
     → (input : List ℕ) (held a : ℕ)
     → Invariant v
     (dataBy (dataCheck (paramsOf v) phase held (length input) a)
-    (engineOf v (readerOf loads initial phase header body) mac n) input .engine)
+    (engineOf v (readerOf loads initial phase header body) mac s) input .engine)
     (readMessage (dataCheck (paramsOf v) phase held (length input) a)
     (readerOf loads initial phase header body) input .reader)
 unfolding dataCheck
-message-step v Uninitialized loads initial header body mac n f st input held a =
-    record { mac = mac; count = n; same-engine = refl; loads-fit = f; phase-invariant = st }
-message-step v (Init d) loads initial header body mac n f st input held a =
-    data-keeps v loads initial f {d = d} in-init header body mac n st input
+message-step v Uninitialized loads initial header body mac s f st input held a =
+    record { mac = mac; steps = s; same-engine = refl; loads-fit = f; phase-invariant = st }
+message-step v (Init d) loads initial header body mac s f st input held a =
+    data-keeps v loads initial f {d = d} in-init header body mac s st input
     (dataCheck (paramsOf v) (Init d) held (length input) a)
-message-step v (Aad d) loads initial header body mac n f st input held a =
-    data-keeps v loads initial f {d = d} in-aad header body mac n st input
+message-step v (Aad d) loads initial header body mac s f st input held a =
+    data-keeps v loads initial f {d = d} in-aad header body mac s st input
     (dataCheck (paramsOf v) (Aad d) held (length input) a)
-message-step v (Data d) loads initial header body mac n f st input held a =
-    data-keeps v loads initial f {d = d} in-data header body mac n st input
+message-step v (Data d) loads initial header body mac s f st input held a =
+    data-keeps v loads initial f {d = d} in-data header body mac s st input
     (dataCheck (paramsOf v) (Data d) held (length input) a)
-message-step v (Final d) loads initial header body mac n f st input held a =
-    record { mac = mac; count = n; same-engine = refl; loads-fit = f; phase-invariant = st }
+message-step v (Final d) loads initial header body mac s f st input held a =
+    record { mac = mac; steps = s; same-engine = refl; loads-fit = f; phase-invariant = st }
 
 pub active-enough : (p : Params) → Sizes p → {phase : Phase} → Active Decrypt phase
     → (body : List ℕ) (a k : ℕ) → endCheck p phase (pointHeld p body phase) a ≡ Ok k → p .key ≤ length body
@@ -531,43 +476,43 @@ active-enough p h in-aad body a k e =
 active-enough p h in-data body a k e =
     omega (arith, end-enough p (Data Decrypt) (pointHeld p body (Data Decrypt)) a k refl e)
 
-end-step : (v : SparkleVariant) (phase : Phase) (loads : List Load) (initial header body : List ℕ) (mac : Mac) (n : ℕ)
-    → (LoadsFit (paramsOf v) loads) → PhaseInvariant (paramsOf v) phase loads initial header body mac n
+end-step : (v : SparkleVariant) (phase : Phase) (loads : List Load) (initial header body : List ℕ) (mac : Mac) (s : Steps)
+    → (LoadsFit (paramsOf v) loads) → PhaseInvariant (paramsOf v) phase loads header body mac
     → (a : ℕ)
     → Invariant v
     (finalBy (endCheck (paramsOf v) phase (pointHeld (paramsOf v) body phase) a)
-    (engineOf v (readerOf loads initial phase header body) mac n) .engine)
+    (engineOf v (readerOf loads initial phase header body) mac s) .engine)
     (readEnd (endCheck (paramsOf v) phase (pointHeld (paramsOf v) body phase) a) (paramsOf v)
     (readerOf loads initial phase header body) .reader)
-end-step v Uninitialized loads initial header body mac n f st a =
-    unfold endCheck in record { mac = mac; count = n; same-engine = refl; loads-fit = f; phase-invariant = st }
-end-step v (Init Encrypt) loads initial header body mac n f st a =
-    seal-keeps v loads initial f in-init header body mac n st
+end-step v Uninitialized loads initial header body mac s f st a =
+    unfold endCheck in record { mac = mac; steps = s; same-engine = refl; loads-fit = f; phase-invariant = st }
+end-step v (Init Encrypt) loads initial header body mac s f st a =
+    seal-keeps v loads initial f in-init header body mac s st
     (endCheck (paramsOf v) (Init Encrypt) (pointHeld (paramsOf v) body (Init Encrypt)) a)
-end-step v (Aad Encrypt) loads initial header body mac n f st a =
-    seal-keeps v loads initial f in-aad header body mac n st
+end-step v (Aad Encrypt) loads initial header body mac s f st a =
+    seal-keeps v loads initial f in-aad header body mac s st
     (endCheck (paramsOf v) (Aad Encrypt) (pointHeld (paramsOf v) body (Aad Encrypt)) a)
-end-step v (Data Encrypt) loads initial header body mac n f st a =
-    seal-keeps v loads initial f in-data header body mac n st
+end-step v (Data Encrypt) loads initial header body mac s f st a =
+    seal-keeps v loads initial f in-data header body mac s st
     (endCheck (paramsOf v) (Data Encrypt) (pointHeld (paramsOf v) body (Data Encrypt)) a)
-end-step v (Init Decrypt) loads initial header body mac n f st a =
-    open-keeps v loads initial f in-init header body mac n st
+end-step v (Init Decrypt) loads initial header body mac s f st a =
+    open-keeps v loads initial f in-init header body mac s st
     (endCheck (paramsOf v) (Init Decrypt) (pointHeld (paramsOf v) body (Init Decrypt)) a)
     (active-enough (paramsOf v) (sizes v) in-init body a)
-end-step v (Aad Decrypt) loads initial header body mac n f st a =
-    open-keeps v loads initial f in-aad header body mac n st
+end-step v (Aad Decrypt) loads initial header body mac s f st a =
+    open-keeps v loads initial f in-aad header body mac s st
     (endCheck (paramsOf v) (Aad Decrypt) (pointHeld (paramsOf v) body (Aad Decrypt)) a)
     (active-enough (paramsOf v) (sizes v) in-aad body a)
-end-step v (Data Decrypt) loads initial header body mac n f st a =
-    open-keeps v loads initial f in-data header body mac n st
+end-step v (Data Decrypt) loads initial header body mac s f st a =
+    open-keeps v loads initial f in-data header body mac s st
     (endCheck (paramsOf v) (Data Decrypt) (pointHeld (paramsOf v) body (Data Decrypt)) a)
     (active-enough (paramsOf v) (sizes v) in-data body a)
-end-step v (Final d) loads initial header body mac n f st a =
-    unfold endCheck in record { mac = mac; count = n; same-engine = refl; loads-fit = f; phase-invariant = st }
+end-step v (Final d) loads initial header body mac s f st a =
+    unfold endCheck in record { mac = mac; steps = s; same-engine = refl; loads-fit = f; phase-invariant = st }
 
 -- the engine's checks are the reader's
-module _ (v : SparkleVariant) (r : Reader) (mac : Mac) (n : ℕ) where
-  pub data-answer : (k a : ℕ) → dataAnswer (engineOf v r mac n) k a
+module _ (v : SparkleVariant) (r : Reader) (mac : Mac) (s : Steps) where
+  pub data-answer : (k a : ℕ) → dataAnswer (engineOf v r mac s) k a
       ≡ dataCheck (paramsOf v) (r .phase) (readerHeld (paramsOf v) r) k a
   data-answer k a =
       let p = paramsOf v in
@@ -576,7 +521,7 @@ module _ (v : SparkleVariant) (r : Reader) (mac : Mac) (n : ℕ) where
       (phase-agrees p (loadedKey r) (loadedNonce r) (r .header) (r .body) (r .phase))
       ∙ data-agrees p (loadedKey r) (loadedNonce r) (r .header) (r .body) (r .phase) k a
 
-  pub final-answer : (a : ℕ) → finalAnswer (engineOf v r mac n) a
+  pub final-answer : (a : ℕ) → finalAnswer (engineOf v r mac s) a
       ≡ endCheck (paramsOf v) (r .phase) (readerHeld (paramsOf v) r) a
   final-answer a =
       let p = paramsOf v in
@@ -585,7 +530,7 @@ module _ (v : SparkleVariant) (r : Reader) (mac : Mac) (n : ℕ) where
       (r .phase))
       ∙ end-agrees p (loadedKey r) (loadedNonce r) (r .header) (r .body) (r .phase) a
 
-  pub update-answer : (k : ℕ) → updateOutputLen (engineOf v r mac n) k
+  pub update-answer : (k : ℕ) → updateOutputLen (engineOf v r mac s) k
       ≡ updateLen (paramsOf v) (r .phase) (readerHeld (paramsOf v) r) k
   unfolding updateOutputLen
   update-answer k =
@@ -595,7 +540,7 @@ module _ (v : SparkleVariant) (r : Reader) (mac : Mac) (n : ℕ) where
       (r .phase))
       ∙ update-agrees p (loadedKey r) (loadedNonce r) (r .header) (r .body) (r .phase) k
 
-  pub total-answer : (k : ℕ) → outputLen (engineOf v r mac n) k ≡ totalLen (paramsOf v) (r .phase) (readerHeld (paramsOf v) r) k
+  pub total-answer : (k : ℕ) → outputLen (engineOf v r mac s) k ≡ totalLen (paramsOf v) (r .phase) (readerHeld (paramsOf v) r) k
   unfolding outputLen
   total-answer k =
       let p = paramsOf v in
@@ -604,67 +549,67 @@ module _ (v : SparkleVariant) (r : Reader) (mac : Mac) (n : ℕ) where
       (r .phase))
       ∙ total-agrees p (loadedKey r) (loadedNonce r) (r .header) (r .body) (r .phase) k
 
-  pub header-answer : (k : ℕ) → aadCheck (engineOf v r mac n .current .phase) k ≡ aadCheck (r .phase) k
+  pub header-answer : (k : ℕ) → aadCheck (engineOf v r mac s .current .phase) k ≡ aadCheck (r .phase) k
   header-answer k =
       ap (λ (phase : Phase). aadCheck phase k) (phase-agrees (paramsOf v) (loadedKey r) (loadedNonce r) (r .header) (r .body)
       (r .phase))
 
 -- a call on the engine that the reader gives
-module _ (v : SparkleVariant) (r : Reader) (mac : Mac) (n : ℕ) (f : LoadsFit (paramsOf v) (r .loads))
-    (st : PhaseInvariant (paramsOf v) (r .phase) (r .loads) (r .initial) (r .header) (r .body) mac n) where
-  unchanged : Invariant v (engineOf v r mac n) r
-  unchanged = record { mac = mac; count = n; same-engine = refl; loads-fit = f; phase-invariant = st }
+module _ (v : SparkleVariant) (r : Reader) (mac : Mac) (s : Steps) (f : LoadsFit (paramsOf v) (r .loads))
+    (st : PhaseInvariant (paramsOf v) (r .phase) (r .loads) (r .header) (r .body) mac) where
+  unchanged : Invariant v (engineOf v r mac s) r
+  unchanged = record { mac = mac; steps = s; same-engine = refl; loads-fit = f; phase-invariant = st }
 
   start-step : (d : Direction) (key nonce : List ℕ) (size : ℕ) (h : List ℕ)
-      → Invariant v (init (engineOf v r mac n) d key nonce size h .engine)
+      → Invariant v (init (engineOf v r mac s) d key nonce size h .engine)
       (read v r (Call.Init d key nonce size h) .reader)
   unfolding init read
   start-step d key nonce size h =
       let p = paramsOf v in
       let k = startCheck v d (length key) (length nonce) size (repeated r key nonce) in
-      subst (λ (b : Bool). Invariant v (initBy (startCheck v d (length key) (length nonce) size b) (engineOf v r mac n) d key nonce h .engine)
+      subst (λ (b : Bool). Invariant v (initBy (startCheck v d (length key) (length nonce) size b) (engineOf v r mac s) d key nonce h .engine)
       (readStart k r d key nonce h .reader))
       (sym (repeats-agree p (small v) (r .loads) f key nonce))
-      (start-keeps v r mac n f d key nonce h k
+      (start-keeps v r mac s f d key nonce h k
       (λ e. let g = startCheck-lengths v d (length key) (length nonce) size (repeated r key nonce) e in record { key-fits = g .0; nonce-fits = g .1 }))
 
   header-some : (x : ℕ) (input : List ℕ)
-      → Invariant v (aadBy (aadCheck (engineOf v r mac n .current .phase) (suc (length input))) (engineOf v r mac n)
+      → Invariant v (aadBy (aadCheck (engineOf v r mac s .current .phase) (suc (length input))) (engineOf v r mac s)
       (x ∷ input) .engine)
       (readHeader (aadCheck (r .phase) (suc (length input))) r (x ∷ input) .reader)
   header-some x input =
-      subst (λ (k : AeadResult). Invariant v (aadBy k (engineOf v r mac n) (x ∷ input) .engine)
+      subst (λ (k : AeadResult). Invariant v (aadBy k (engineOf v r mac s) (x ∷ input) .engine)
       (readHeader (aadCheck (r .phase) (suc (length input))) r (x ∷ input) .reader))
-      (sym (header-answer v r mac n (suc (length input))))
-      (subst (λ (k : AeadResult). Invariant v (aadBy k (engineOf v r mac n) (x ∷ input) .engine) (readHeader k r (x ∷ input) .reader))
+      (sym (header-answer v r mac s (suc (length input))))
+      (subst (λ (k : AeadResult). Invariant v (aadBy k (engineOf v r mac s) (x ∷ input) .engine) (readHeader k r (x ∷ input) .reader))
       (sym (aad-some (r .phase) (length input)))
-      (header-keeps v (r .loads) (r .initial) f (r .phase) (r .header) (r .body) mac n st x input))
+      (header-keeps v (r .loads) (r .initial) f (r .phase) (r .header) (r .body) mac s st x input))
 
   header-step : (input : List ℕ)
-      → Invariant v (processAadBytes (engineOf v r mac n) input .engine) (read v r (Call.Aad input) .reader)
+      → Invariant v (processAadBytes (engineOf v r mac s) input .engine) (read v r (Call.Aad input) .reader)
   unfolding processAadBytes read aadCheck
   header-step [] =
-      subst (λ (l : List ℕ). Invariant v (engineOf v r mac n) (inPhase r (r .phase) l (r .body)))
+      subst (λ (l : List ℕ). Invariant v (engineOf v r mac s) (inPhase r (r .phase) l (r .body)))
       (sym (append-nil (r .header))) unchanged
   header-step (x ∷ input) = header-some x input
 
-  call-step : (c : Call) → Invariant v (step (engineOf v r mac n) c .engine) (read v r c .reader)
+  call-step : (c : Call) → Invariant v (step (engineOf v r mac s) c .engine) (read v r c .reader)
   unfolding step processBytes doFinal
   call-step (Call.Init d key nonce size h) = start-step d key nonce size h
   call-step (Call.Aad input) = header-step input
   call-step (Call.Data input out) = unfold read in
-      subst (λ (k : AeadResult). Invariant v (dataBy k (engineOf v r mac n) input .engine)
+      subst (λ (k : AeadResult). Invariant v (dataBy k (engineOf v r mac s) input .engine)
       (read v r (Call.Data input out) .reader))
-      (sym (data-answer v r mac n (length input) (length out)))
-      (message-step v (r .phase) (r .loads) (r .initial) (r .header) (r .body) mac n f st input
+      (sym (data-answer v r mac s (length input) (length out)))
+      (message-step v (r .phase) (r .loads) (r .initial) (r .header) (r .body) mac s f st input
       (readerHeld (paramsOf v) r) (length out))
   call-step (Call.Final out) = unfold read in
-      subst (λ (k : AeadResult). Invariant v (finalBy k (engineOf v r mac n) .engine)
+      subst (λ (k : AeadResult). Invariant v (finalBy k (engineOf v r mac s) .engine)
       (read v r (Call.Final out) .reader))
-      (sym (final-answer v r mac n (length out)))
-      (end-step v (r .phase) (r .loads) (r .initial) (r .header) (r .body) mac n f st (length out))
+      (sym (final-answer v r mac s (length out)))
+      (end-step v (r .phase) (r .loads) (r .initial) (r .header) (r .body) mac s f st (length out))
   call-step Call.Reset =
-      unfold read in reset-keeps v (r .loads) (r .initial) f (r .phase) (r .header) (r .body) mac n st
+      unfold read in reset-keeps v (r .loads) (r .initial) f (r .phase) (r .header) (r .body) mac s st
   call-step Call.Mac = unfold read in unchanged
   call-step (Call.Update k) = unfold read in unchanged
   call-step (Call.Output k) = unfold read in unchanged
@@ -675,7 +620,7 @@ pub invariant-step : (v : SparkleVariant) (e : SparkleEngine) (r : Reader) → I
     → Invariant v (step e c .engine) (read v r c .reader)
 invariant-step v e r w c =
     subst (λ (x : SparkleEngine). Invariant v (step x c .engine) (read v r c .reader)) (sym (w .same-engine))
-    (call-step v r (w .mac) (w .count) (w .loads-fit) (w .phase-invariant) c)
+    (call-step v r (w .mac) (w .steps) (w .loads-fit) (w .phase-invariant) c)
 
 pub invariant-from : (v : SparkleVariant) (e : SparkleEngine) (r : Reader) → Invariant v e r → (calls : List Call)
     → Invariant v (runFrom e calls) (readFrom v r calls)

@@ -6,6 +6,8 @@
 -- InvariantKept: every call keeps that.
 -- Accepted: what accepted calls write, on such an engine.
 -- CallOutputs: what each call of a list writes and answers.
+-- Ran: what each call runs, from what the reader keeps.
+-- StepInvariant: the count of the steps, from what the reader keeps; every call keeps it.
 -- UnrefusedMessages: what the calls of a message write, of what was not refused.
 -- AcceptedMessages: whole messages with room are accepted.
 -- Answers: every answer from what the reader keeps.
@@ -29,6 +31,8 @@ pub mod Invariant
 pub mod InvariantKept
 pub mod Accepted
 pub mod CallOutputs
+pub mod Ran
+pub mod StepInvariant
 pub mod UnrefusedMessages
 pub mod AcceptedMessages
 pub mod Answers

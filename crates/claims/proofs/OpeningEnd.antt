@@ -4,17 +4,15 @@ use mathlib.Core.Path.{_≡_, refl, sym, ap, ap₂, _∙_}
 use mathlib.Core.List.{List, [], _∷_}
 use Prim.Native.Nat.{ℕ, _+_, _-_, _*_, _≤_, _<_}
 use native.Mathlib.Omega.{arith}
-use borrow.Author.Tests.{lt-ltb}
 use lib.ListN.{length, take, drop}
 use lib.Seq.{length-take-le, drop-drop, drop-nil}
 use Rattle.schwaemm.specs.Bytes.{ifEmpty}
 use Rattle.schwaemm.specs.Blocks.{ready, after, given, held}
-use Rattle.schwaemm.specs.Schwaemm.{Params, mixLast, leading, messageBlock, beforeLast, lastBlock, message, body, received, stepsOf}
+use Rattle.schwaemm.specs.Schwaemm.{Params, mixLast, leading, messageBlock, beforeLast, lastBlock, message, body, received}
 use Rattle.schwaemm.proofs.Cut.{ready-before, rest-above, after-take, given-take, length-held, drop-take}
 use Rattle.schwaemm.proofs.RoundTrip.{length-lastBlock, leading-bound}
-use Rattle.schwaemm.proofs.Steps.{steps-some}
-use Rattle.tc_sparkle_aead.specs.Message.{lastState, lastSteps}
-use Rattle.claims.proofs.Points.{ready-zero, after-nil}
+use Rattle.tc_sparkle_aead.specs.Message.{lastState}
+use Rattle.claims.proofs.Points.{after-nil}
 
 -- ---- The last block
 
@@ -39,14 +37,6 @@ module _ (p : Params) where
       (drop-nil (ready (p .rate) 0 0 * p .rate))
       ∙ after-nil (p .rate) 0 (messageBlock p plain) s
   last-state plain s (x ∷ c) = if-some (lastBlock p (x ∷ c)) _ _ (lastBlock-some (x ∷ c) (omega arith))
-
-  -- the steps of the blocks and of the last block are the message's
-  pub last-steps : (c : List ℕ) → leading p (length c) * p .slim + lastSteps p (lastBlock p c) ≡ stepsOf p (length c)
-  unfolding lastSteps lastBlock leading stepsOf
-  last-steps [] = rw (drop-nil {A = ℕ} (ready (p .rate) 0 0 * p .rate), ready-zero (p .rate) 0) (omega arith)
-  last-steps (x ∷ c) =
-      rw (lt-ltb 0 (length (lastBlock p (x ∷ c))) (lastBlock-some (x ∷ c) (omega arith)))
-      (sym (steps-some p (length (x ∷ c)) (omega arith)))
 
 -- ---- A packet of at least a tag's bytes
 

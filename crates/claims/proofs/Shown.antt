@@ -29,7 +29,7 @@ use Rattle.claims.specs.Messages.{shownByEnd, shownAfter, shownTags}
 use Rattle.claims.specs.Machine.{engine, sheetOf}
 use Rattle.claims.proofs.Invariant.{Invariant, engineOf, invariant-new}
 use Rattle.claims.proofs.InvariantKept.{invariant-step, final-answer}
-use Rattle.claims.proofs.CallOutputs.{end-ended}
+use Rattle.claims.proofs.CallOutputs.{end-mac}
 use Rattle.claims.proofs.MachineDemand3.{engine-lines}
 
 -- ---- Calls that keep the tag.
@@ -109,15 +109,15 @@ module _ (v : SparkleVariant) (e : SparkleEngine) (r : Reader) (w : Invariant v 
           ≡ shownAfter v r (macOf e .readable) (Call.Final out)
       by (Err x) q =
           unfold step in unfold doFinal in
-          let E = engineOf v r (w .mac) (w .count) in
+          let E = engineOf v r (w .mac) (w .steps) in
           ap (λ (y : SparkleEngine). macOf (finalBy (finalAnswer y (length out)) y .engine) .readable) (w .same-engine)
-          ∙ ap (λ (k : AeadResult). macOf (finalBy k E .engine) .readable) (final-answer v r (w .mac) (w .count) (length out) ∙ q)
+          ∙ ap (λ (k : AeadResult). macOf (finalBy k E .engine) .readable) (final-answer v r (w .mac) (w .steps) (length out) ∙ q)
           ∙ ap (λ (y : SparkleEngine). macOf y .readable) (sym (w .same-engine))
           ∙ sym (ap (λ (k : AeadResult). shownByEnd k (opening (r .phase))
           (verified (paramsOf v) (loadedKey r) (loadedNonce r) (r .header) (r .body)) (macOf e .readable)) q)
       by (Ok n) q =
           let good = cond (opening (r .phase)) (verified (paramsOf v) (loadedKey r) (loadedNonce r) (r .header) (r .body)) true in
-          ap (λ (m : Mac). m .readable) (end-ended v e r w out n q .mac-is) ∙ shown-is good _
+          ap (λ (m : Mac). m .readable) (end-mac v e r w out n q) ∙ shown-is good _
           ∙ end-shows (opening (r .phase)) (verified (paramsOf v) (loadedKey r) (loadedNonce r) (r .header) (r .body)) (macOf e .readable) n
           ∙ sym (ap (λ (k : AeadResult). shownByEnd k (opening (r .phase))
           (verified (paramsOf v) (loadedKey r) (loadedNonce r) (r .header) (r .body)) (macOf e .readable)) q)

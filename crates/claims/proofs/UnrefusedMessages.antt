@@ -147,19 +147,19 @@ pub unwritten : (a b : List ℕ) → b ≡ [] → a ≡ a ++ b
 unwritten a b e = sym (append-nil a) ∙ ap (λ (l : List ℕ). a ++ l) (sym e)
 
 -- a header call gives nothing
-released-more : (p : Params) (phase : Phase) (loads : List Load) (initial header body : List ℕ) (mac : Mac) (n : ℕ)
-    → PhaseInvariant p phase loads initial header body mac n → (x : ℕ) (input : List ℕ)
+released-more : (p : Params) (phase : Phase) (loads : List Load) (initial header body : List ℕ) (mac : Mac)
+    → PhaseInvariant p phase loads header body mac → (x : ℕ) (input : List ℕ)
     → released p (readHeader (headerCheck phase) (readerOf loads initial phase header body) (x ∷ input) .reader)
     ≡ released p (readerOf loads initial phase header body)
-released-more p Uninitialized loads initial header body mac n st x input = refl
-released-more p (Init d) loads initial header body mac n st x input =
-    released-none p loads initial (Aad d) (header ++ (x ∷ input)) body (st .4)
-    ∙ sym (released-none p loads initial (Init d) header body (st .4))
-released-more p (Aad d) loads initial header body mac n st x input =
-    released-none p loads initial (Aad d) (header ++ (x ∷ input)) body (st .4)
-    ∙ sym (released-none p loads initial (Aad d) header body (st .4))
-released-more p (Data d) loads initial header body mac n st x input = refl
-released-more p (Final d) loads initial header body mac n st x input = refl
+released-more p Uninitialized loads initial header body mac st x input = refl
+released-more p (Init d) loads initial header body mac st x input =
+    released-none p loads initial (Aad d) (header ++ (x ∷ input)) body (st .3)
+    ∙ sym (released-none p loads initial (Init d) header body (st .3))
+released-more p (Aad d) loads initial header body mac st x input =
+    released-none p loads initial (Aad d) (header ++ (x ∷ input)) body (st .3)
+    ∙ sym (released-none p loads initial (Aad d) header body (st .3))
+released-more p (Data d) loads initial header body mac st x input = refl
+released-more p (Final d) loads initial header body mac st x input = refl
 
 released-header : (v : SparkleVariant) (e : SparkleEngine) (r : Reader) → Invariant v e r → (input : List ℕ)
     → released (paramsOf v) (read v r (Call.Aad input) .reader) ≡ released (paramsOf v) r
@@ -170,7 +170,7 @@ released-header v e r w [] =
 released-header v e r w (x ∷ input) =
     ap (λ (k : AeadResult). released (paramsOf v) (readHeader k r (x ∷ input) .reader)) (aad-some (r .phase) (length input))
     ∙ released-more (paramsOf v) (r .phase) (r .loads) (r .initial) (r .header) (r .body) (w .mac)
-    (w .count) (w .phase-invariant) x input
+    (w .phase-invariant) x input
 
 -- a data call gives what it wrote
 released-message : (v : SparkleVariant) (e : SparkleEngine) (r : Reader) → Invariant v e r → (input out : List ℕ)
@@ -252,20 +252,20 @@ nothing-added a b o e = e ∙ unwritten b (ifOk o []) (if-none o)
 
 pub header-outcome : (v : SparkleVariant) (e : SparkleEngine) (r : Reader) (w : Invariant v e r) (input : List ℕ)
     → step e (Call.Aad input) .outcome
-    ≡ outcome (aadBy (aadCheck (r .phase) (length input)) (engineOf v r (w .mac) (w .count)) input .answer)
+    ≡ outcome (aadBy (aadCheck (r .phase) (length input)) (engineOf v r (w .mac) (w .steps)) input .answer)
 unfolding step processAadBytes
 header-outcome v e r w input =
-    let K = engineOf v r (w .mac) (w .count) in
+    let K = engineOf v r (w .mac) (w .steps) in
     ap (λ (x : SparkleEngine). outcome (aadBy (aadCheck (x .current .phase) (length input)) x input .answer))
     (w .same-engine)
-    ∙ ap (λ (k : AeadResult). outcome (aadBy k K input .answer)) (header-answer v r (w .mac) (w .count) (length input))
+    ∙ ap (λ (k : AeadResult). outcome (aadBy k K input .answer)) (header-answer v r (w .mac) (w .steps) (length input))
 
 header-step-accepted : (v : SparkleVariant) (e : SparkleEngine) (r : Reader) → Invariant v e r → (c : Call) → Between e c
     → read v r c .reader .header ≡ r .header ++ ifOk (step e c .outcome) (headerIn c)
 unfolding read
 header-step-accepted v e r w (Call.Init d key nonce size h) b = absurd b
 header-step-accepted v e r w (Call.Aad input) b =
-    header-by (aadCheck (r .phase) (length input)) (engineOf v r (w .mac) (w .count)) r input
+    header-by (aadCheck (r .phase) (length input)) (engineOf v r (w .mac) (w .steps)) r input
     ∙ ap (λ (o : Outcome). r .header ++ ifOk o input) (sym (header-outcome v e r w input))
 header-step-accepted v e r w (Call.Data input out) b =
     nothing-added _ (r .header) (step e (Call.Data input out) .outcome)
@@ -334,11 +334,11 @@ start-outcome v e r w d key nonce size h =
     ap (λ (x : SparkleEngine). startOutcome (init x d key nonce size h .answer)) (w .same-engine)
     ∙ ap startOutcome
     (start-answered (startCheck v d (length key) (length nonce) size (repeats p (pairIn (r .loads)) key nonce))
-    (engineOf v r (w .mac) (w .count)) d key nonce h)
+    (engineOf v r (w .mac) (w .steps)) d key nonce h)
     ∙ ap (λ (b : Bool). startOutcome (startCheck v d (length key) (length nonce) size b))
     (repeats-agree p (small v) (r .loads) (w .loads-fit) key nonce)
 
-start-read : (v : SparkleVariant) (e : SparkleEngine) (r : Reader) → Invariant v e r
+pub start-read : (v : SparkleVariant) (e : SparkleEngine) (r : Reader) → Invariant v e r
     → (d : Direction) (key nonce : List ℕ) (size : ℕ) (h : List ℕ) (n : ℕ)
     → step e (Call.Init d key nonce size h) .outcome ≡ Outcome.ok n
     → read v r (Call.Init d key nonce size h) .reader ≡ startedReader r d key nonce h
