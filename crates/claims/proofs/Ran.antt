@@ -27,7 +27,7 @@ use Rattle.tc_sparkle_aead.specs.declared.engine.Steps.{Steps}
 use Rattle.tc_sparkle_aead.specs.declared.engine.SparkleEngine.{SparkleEngine}
 use Rattle.tc_aead_cipher.specs.Variant.{paramsOf}
 use Rattle.tc_aead_cipher.specs.Checks.{directionOf, keep, aadCheck, headerCheck, dataCheck, endCheck, startCheck}
-use Rattle.tc_sparkle_aead.specs.Message.{buffered, beginSteps, lastSteps, openBlock}
+use Rattle.tc_sparkle_aead.specs.Message.{buffered, lastSteps, openBlock}
 use Rattle.tc_sparkle_aead.specs.Calls.{addSteps, atPoint, aadBy, processAadBytes, dataIn, dataBy, processBytes, finalBy, doFinal}
 use Rattle.tc_aead_cipher.proofs.VariantLaws.{sizes, small}
 use Rattle.tc_aead_cipher.specs.Call.{Call}
@@ -40,7 +40,7 @@ use Rattle.claims.specs.Steps.{startSteps, stepsBefore, messageLength}
 use Rattle.claims.specs.Messages.{Keeps}
 use Rattle.claims.proofs.Points.{blockPoint, ready-zero}
 use Rattle.claims.proofs.Invariant.{Invariant, PhaseInvariant, LoadsFit, engineOf, headPoint, dataPoint, holds-init}
-use Rattle.claims.proofs.Invariant.{holds-aad, holds-data, head-runs, data-blocks, isLoaded}
+use Rattle.claims.proofs.Invariant.{holds-aad, holds-data, head-runs, data-blocks, isLoaded, pointHeld}
 use Rattle.claims.proofs.InvariantKept.{readerOf, begunSteps, begin-data, data-in, aad-some, header-answer, data-answer}
 use Rattle.claims.proofs.InvariantKept.{final-answer, active-loaded, active-enough}
 use Rattle.claims.proofs.Accepted.{data-passed-active, end-passed-active, open-length}
@@ -61,19 +61,27 @@ abbrev pub headerRan : AeadResult → Params → Reader → ℕ → ℕ
 headerRan (Err x) p r n = 0
 headerRan (Ok k) p r n = leading p (headerHeld p (length (r .header)) + n) * p .slim
 
--- Data: the end of the header, where it was not ended, and the blocks that go of what is held and n bytes more.
+-- Where the data begins: the last block of the header, where there is one.
+abbrev pub beginRan : Params → Phase → ℕ
+beginRan p Uninitialized = 0
+beginRan p (Init d) = 0
+beginRan p (Aad d) = p .big
+beginRan p (Data d) = 0
+beginRan p (Final d) = 0
+
+-- Data: the header's last block, and the blocks that go of what is held and n bytes more.
 abbrev pub messageRan : AeadResult → Params → Reader → ℕ → ℕ
 messageRan (Err x) p r n = 0
-messageRan (Ok k) p r n = beginSteps p (r .phase) + ready (p .rate) (keep p (r .phase)) (readerHeld p r + n) * p .slim
+messageRan (Ok k) p r n = beginRan p (r .phase) + ready (p .rate) (keep p (r .phase)) (readerHeld p r + n) * p .slim
 
--- An end: the end of the header, and the last block, where there is one.
+-- An end: the header's last block, and the message's, where there is one.
 abbrev pub lastRan : Params → ℕ → ℕ
 lastRan p n = cond (ltb 0 n) (p .big) 0
 
 abbrev pub endRan : AeadResult → Params → Reader → ℕ
 endRan (Err x) p r = 0
 endRan (Ok k) p r =
-    beginSteps p (r .phase) + lastRan p (messageLength (directionOf (r .phase)) p (readerHeld p r))
+    beginRan p (r .phase) + lastRan p (messageLength (directionOf (r .phase)) p (readerHeld p r))
 
 -- What a call runs, from the reader before it.
 unfoldable pub ran : SparkleVariant → Reader → Call → ℕ
@@ -138,7 +146,7 @@ module _ (p : Params) (h : Sizes p) where
   module _ (loads : List Load) (header body : List ℕ) (mac : Mac) where
     -- where the data begins
     begun-more : {d : Direction} {phase : Phase} → Active d phase → PhaseInvariant p phase loads header body mac
-        → soFar p phase header body + beginSteps p phase ≡ soFar p (Data d) header body
+        → soFar p phase header body + beginRan p phase ≡ soFar p (Data d) header body
     unfolding stepsBefore leading
     begun-more {d = d} in-init st =
         rw (st .2, st .3, ready-zero (p .rate) 0, ready-zero (p .rate) (keep p (Data d)), steps-none p) (omega arith)
@@ -149,7 +157,7 @@ module _ (p : Params) (h : Sizes p) where
     data-more : (d : Direction) (input : List ℕ)
         → soFar p (Data d) header (body ++ input)
         ≡ soFar p (Data d) header body
-        + ready (p .rate) (keep p (Data d)) (length body - ready (p .rate) (keep p (Data d)) (length body) * p .rate + length input) * p .slim
+        + ready (p .rate) (keep p (Data d)) (pointHeld p body (Data d) + length input) * p .slim
     unfolding stepsBefore
     data-more d input =
         rw (length-append body input) (omega (arith, more-blocks (keep p (Data d)) (length body) (length input)))
@@ -157,7 +165,7 @@ module _ (p : Params) (h : Sizes p) where
     end-more : (d : Direction)
         → soFar p (Final d) header body
         ≡ soFar p (Data d) header body
-        + lastRan p (messageLength d p (length body - ready (p .rate) (keep p (Data d)) (length body) * p .rate))
+        + lastRan p (messageLength d p (pointHeld p body (Data d)))
     unfolding stepsBefore steps leading
     end-more Encrypt = omega (arith, last-more (length body))
     end-more Decrypt =
@@ -250,7 +258,7 @@ add-both a b s =
     λ i. record { current = e i; initial = s .initial }
 
 begun-adds : (p : Params) {d : Direction} {phase : Phase} → Active d phase → (n : ℕ) (s : Steps)
-    → addSteps n (begunSteps p phase s) ≡ addSteps (beginSteps p phase + n) s
+    → addSteps n (begunSteps p phase s) ≡ addSteps (beginRan p phase + n) s
 begun-adds p in-init n s = add-both 0 n s
 begun-adds p in-aad n s = add-both (p .big) n s
 begun-adds p in-data n s = ap (λ (k : ℕ). addSteps k s) (sym (zero-add n))
@@ -291,7 +299,7 @@ module _ (v : SparkleVariant) (loads : List Load) (initial header body : List �
   -- data
   data-held : (d : Direction) (input : List ℕ)
       → ready (p .rate) (keep p (Data d)) (length (held (p .rate) (keep p (Data d)) body ++ input)) * p .slim
-      ≡ ready (p .rate) (keep p (Data d)) (length body - ready (p .rate) (keep p (Data d)) (length body) * p .rate + length input) * p .slim
+      ≡ ready (p .rate) (keep p (Data d)) (pointHeld p body (Data d) + length input) * p .slim
   data-held d input =
       ap (λ (n : ℕ). ready (p .rate) (keep p (Data d)) n * p .slim)
       (length-append (held (p .rate) (keep p (Data d)) body) input
@@ -300,8 +308,8 @@ module _ (v : SparkleVariant) (loads : List Load) (initial header body : List �
   message-runs : LoadsFit p loads → {d : Direction} {phase : Phase} → Active d phase → PhaseInvariant p phase loads header body mac
       → (input : List ℕ) (k : ℕ)
       → dataBy (Ok k) (engineOf v (readerOf loads initial phase header body) mac s) input .engine .steps
-      ≡ addSteps (beginSteps p phase
-      + ready (p .rate) (keep p (Data d)) (length body - ready (p .rate) (keep p (Data d)) (length body) * p .rate + length input) * p .slim) s
+      ≡ addSteps (beginRan p phase
+      + ready (p .rate) (keep p (Data d)) (pointHeld p body (Data d) + length input) * p .slim) s
   message-runs f {d} {phase} t st input k =
       let begun = begunSteps p phase s in
       ap (λ (e : SparkleEngine). dataIn e input .steps) (begin-data v loads initial f t header body mac s st)
@@ -313,15 +321,15 @@ module _ (v : SparkleVariant) (loads : List Load) (initial header body : List �
 
   message-ran : {d : Direction} {phase : Phase} → Active d phase → (n k : ℕ)
       → messageRan (Ok k) p (readerOf loads initial phase header body) n
-      ≡ beginSteps p phase
-      + ready (p .rate) (keep p (Data d)) (length body - ready (p .rate) (keep p (Data d)) (length body) * p .rate + n) * p .slim
+      ≡ beginRan p phase
+      + ready (p .rate) (keep p (Data d)) (pointHeld p body (Data d) + n) * p .slim
   message-ran in-init n k = refl
   message-ran in-aad n k = refl
   message-ran in-data n k = refl
 
   -- an end
   seal-runs : lastSteps p (buffered p (dataPoint p Encrypt (lastKey loads) (lastNonce loads) header body))
-      ≡ lastRan p (length body - ready (p .rate) 0 (length body) * p .rate)
+      ≡ lastRan p (pointHeld p body (Data Encrypt))
   unfolding lastSteps
   seal-runs =
       ap (λ (l : List ℕ). lastRan p (length l)) (holds-data p (sizes v) (small v) Encrypt (lastKey loads) (lastNonce loads) header body)
@@ -329,7 +337,7 @@ module _ (v : SparkleVariant) (loads : List Load) (initial header body : List �
 
   open-runs : LoadsFit p loads → isLoaded loads ≡ true → p .key ≤ length body
       → lastSteps p (openBlock p (dataPoint p Decrypt (lastKey loads) (lastNonce loads) header body))
-      ≡ lastRan p (length body - ready (p .rate) (p .key) (length body) * p .rate - p .key)
+      ≡ lastRan p (pointHeld p body (Data Decrypt) - p .key)
   unfolding lastSteps
   open-runs f l enough =
       ap (lastRan p)
@@ -338,8 +346,8 @@ module _ (v : SparkleVariant) (loads : List Load) (initial header body : List �
 
   end-ran : {d : Direction} {phase : Phase} → Active d phase → (k : ℕ)
       → endRan (Ok k) p (readerOf loads initial phase header body)
-      ≡ beginSteps p phase
-      + lastRan p (messageLength d p (length body - ready (p .rate) (keep p (Data d)) (length body) * p .rate))
+      ≡ beginRan p phase
+      + lastRan p (messageLength d p (pointHeld p body (Data d)))
   end-ran in-init k = refl
   end-ran in-aad k = refl
   end-ran in-data k = refl

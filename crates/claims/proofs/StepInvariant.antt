@@ -278,7 +278,8 @@ active-before in-init = tt
 active-before in-aad = tt
 active-before in-data = tt
 
-ended-so-far : (p : Params) (d : Direction) {phase : Phase} → Active d phase → (loads : List Load) (initial header body : List ℕ) (n : ℕ)
+ended-so-far : (p : Params) (d : Direction) {phase : Phase} → Active d phase
+    → (loads : List Load) (initial header body : List ℕ) (n : ℕ)
     → ranSoFar p (readEnd (Ok n) p (readerOf loads initial phase header body) .reader)
     ≡ steps p (length header) (messageLength d p (length body))
 ended-so-far p Encrypt in-init loads initial header body n = refl
