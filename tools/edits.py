@@ -1,13 +1,13 @@
 """The must-fail edits: their text, what each changes, what the places that it names speak of, and the places of a
 prover's log. For tools/bundle-edits, tools/check-edits and tools/check-claims.
 
-An edit is a file crates/CRATE/edits/NAME.edit in the form of `rt`: a line "file: PATH" holds for the pairs of
-lines "old: TEXT" and "new: TEXT" behind it, and each old text stands once in its file. A line
-"refused: PLACE PLACE .." names the places where its fact is looked at. A place is a function of the crate, as
-engine/open_end, or a law, as EndLaws:unopened: the file in proofs/ and the law's name. Where it is a law, a line
-"fails: .." says a value at which the law is false under the edit. The last step of a function's proof is not looked
-at while a function below it is not proved: where the edit's error stands there, a line "apart: callees" keeps the
-edit out of bundles that reach one.
+An edit is a file crates/CRATE/edits/NAME.edit in the form of `rt`: a line "file: PATH" holds for the pairs of lines
+"old: TEXT" and "new: TEXT" behind it, and each old text stands once in its file. The name is that of no other edit,
+in any crate. A line "refused: PLACE PLACE .." names the places where its fact is looked at. A place is a function
+of the crate, as engine/open_end, or a law, as EndLaws:unopened: the file in proofs/ and the law's name. Where it is
+a law, a line "fails: .." says a value at which the law is false under the edit. The last step of a function's proof
+is not looked at while a function below it is not proved: where the edit's error stands there, a line
+"apart: callees" keeps the edit out of bundles that reach one.
 """
 import glob
 import itertools
@@ -239,6 +239,14 @@ class Edit:
 
 def edits(crate):
     return [Edit(path) for path in sorted(glob.glob(f"crates/{crate}/edits/*.edit"))]
+
+
+def named_twice():
+    """The names that edits of all crates share, each with the paths of these edits."""
+    found = {}
+    for path in sorted(glob.glob("crates/*/edits/*.edit")):
+        found.setdefault(os.path.basename(path).removesuffix(".edit"), []).append(path)
+    return [(name, paths) for name, paths in found.items() if len(paths) > 1]
 
 
 def crates():
