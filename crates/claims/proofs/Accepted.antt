@@ -22,7 +22,7 @@ use Rattle.tc_aead_cipher.specs.declared.phase.Phase.the-variants.{Uninitialize
 use Rattle.tc_aead_cipher.specs.declared.aead_error.AeadError.the-variants.{OutputTooShort, CiphertextTooShort, InputTooLong}
 use Rattle.tc_aead_cipher.specs.declared.aead_error.AeadResult.{AeadResult}
 use Rattle.tc_aead_cipher.specs.declared.aead_error.AeadResult.the-variants.{Ok, Err}
-use Rattle.tc_sparkle_aead.specs.declared.engine.Mac.{Mac}
+use Rattle.tc_sparkle_aead.specs.declared.message.Mac.{Mac}
 use Rattle.tc_sparkle_aead.specs.declared.engine.Steps.{Steps}
 use Rattle.tc_sparkle_aead.specs.declared.engine.SparkleEngine.{SparkleEngine}
 use Rattle.tc_aead_cipher.specs.Variant.{paramsOf}

@@ -22,6 +22,7 @@
 -- Shown: whether a tag can be read, on every line.
 -- EngineCounts: the steps of every line.
 -- EngineDemand2: the engine as a machine meets demand 2.
+-- PublicSheet: a sheet is a function of shapes and verdicts.
 -- WorkedVerdicts: the verdicts of the list that document 01 works by hand.
 -- Claims: every final statement in full; begin there.
 pub mod EngineEnd
@@ -47,5 +48,6 @@ pub mod EngineDemand3
 pub mod Shown
 pub mod EngineCounts
 pub mod EngineDemand2
+pub mod PublicSheet
 pub mod WorkedVerdicts
 pub mod Claims

@@ -11,7 +11,7 @@ use tc_aead_cipher::phase::Direction;
 use tc_aead_cipher::variant::SparkleVariant;
 use tc_sparkle_aead::aead_cipher;
 use tc_sparkle_aead::engine;
-use tc_sparkle_aead::engine::Mac;
+use tc_sparkle_aead::message::Mac;
 use tc_sparkle_aead::engine::SparkleEngine;
 
 // Ends the old message and starts a new one.

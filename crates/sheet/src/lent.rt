@@ -4,7 +4,7 @@ ghost use mathlib.Core.Path.{_≡_};
 ghost use Rattle.tc_sparkle_aead.specs.Calls.{processAadBytes, processBytes, processBytesOut, doFinal, doFinalOut, macOf, stepsNow};
 use entry_calls::aead_cipher;
 use tc_sparkle_aead::engine::Done;
-use tc_sparkle_aead::engine::Mac;
+use tc_sparkle_aead::message::Mac;
 use tc_sparkle_aead::engine::SparkleEngine;
 
 pub(crate) fn process_aad_bytes(e: SparkleEngine, input: &[u8]) -> Done

@@ -1,14 +1,14 @@
 -- The laws of the checks: under which hypothesis a definition of `specs.Checks` gives which answer.
 use mathlib.Core.Path.{_≡_, refl, sym, ap, _∙_}
 use mathlib.Core.Bool.{Bool, true, false, cond}
-use Prim.Native.Nat.{ℕ, _+_, _-_, _*_, _^_, _≤_, _<_}
+use Prim.Native.Nat.{ℕ, suc, _+_, _-_, _*_, _^_, _≤_, _<_}
 use native.Mathlib.Omega.{arith}
 use native.Mathlib.Decide.{ℕ-discrete}
 use lib.Dec.{eqb}
 use borrow.Author.Tests.{lt-ltb, le-ltb, eq-eqb, ne-eqb, eqb-true, eqb-false}
 use Rattle.schwaemm.specs.Blocks.{ready}
 use Rattle.schwaemm.specs.Schwaemm.{Params}
-use Rattle.tc_aead_cipher.specs.Checks.{opens, opening, heldData, keep, then, within64, updateLen, totalLen, phaseCheck, room, whole, dataCheck, endCheck, startCheck}
+use Rattle.tc_aead_cipher.specs.Checks.{opens, opening, heldData, keep, then, within64, updateLen, totalLen, phaseCheck, room, whole, dataCheck, endCheck, startCheck, aadCheck, headerCheck}
 use Rattle.tc_aead_cipher.specs.Variant.{paramsOf}
 use Rattle.tc_aead_cipher.specs.declared.variant.SparkleVariant.{SparkleVariant}
 use Rattle.tc_aead_cipher.specs.declared.phase.Direction.{Direction}
@@ -196,3 +196,12 @@ module _ (v : SparkleVariant) (direction : Direction) (key nonce size : ℕ) (ag
 
   pub startCheck-lengths : (key ≡ paramsOf v .key) × (nonce ≡ paramsOf v .rate)
   startCheck-lengths = (key-by _ refl, nonce-by _ (key-by _ refl) refl)
+
+-- a header call: an empty one is accepted in every phase
+pub aadCheck-none : (phase : Phase) → aadCheck phase 0 ≡ Ok 0
+unfolding aadCheck
+aadCheck-none phase = refl
+
+pub aadCheck-some : (phase : Phase) (n : ℕ) → aadCheck phase (suc n) ≡ headerCheck phase
+unfolding aadCheck
+aadCheck-some phase n = rw (ne-eqb (suc n) 0 (λ e. omega arith)) refl

@@ -15,7 +15,7 @@ use Rattle.schwaemm.proofs.RoundTrip.{length-tagOf}
 use Rattle.tc_sparkle_aead.specs.declared.message.Point.{Point}
 use Rattle.tc_aead_cipher.specs.declared.variant.SparkleVariant.{SparkleVariant}
 use Rattle.tc_sparkle_aead.specs.declared.message.End.{End}
-use Rattle.tc_sparkle_aead.specs.declared.engine.Mac.{Mac}
+use Rattle.tc_sparkle_aead.specs.declared.message.Mac.{Mac}
 use Rattle.tc_aead_cipher.specs.Variant.{paramsOf}
 use Rattle.tc_sparkle_aead.specs.Message.{zeros, inArray, noMac, stateIn, putState, bufferedCount, buffered, lastState, lastSteps, written, readable, sealTag, sealLast, openBlock, receivedTag, openLast, openTag, sealEnd, openEnd, openOut}
 use Rattle.tc_aead_cipher.proofs.VariantLaws.{Small, sizes, small}

@@ -1,5 +1,4 @@
--- Where a reset leads, by cases. A `match` that groups
--- phases tells which numbers of theirs are possible.
+-- Where a reset leads, by cases. A `match` that groups phases tells which of their numbers are possible.
 use mathlib.Core.Path.{_≡_, refl}
 use mathlib.Core.Bool.{true, false}
 use mathlib.Core.List.{[], _∷_}

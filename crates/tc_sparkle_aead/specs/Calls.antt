@@ -4,7 +4,6 @@ use Prim.Native.Nat.{ℕ, _+_, _%_, _^_}
 use mathlib.Core.Bool.{Bool, true, false, cond}
 use mathlib.Core.List.{List, [], _∷_}
 use lib.ListN.{length}
-use Rattle.schwaemm.specs.Blocks.{held}
 use Rattle.tc_aead_cipher.specs.declared.phase.Direction.{Direction}
 use Rattle.tc_aead_cipher.specs.declared.phase.Direction.the-variants.{Encrypt, Decrypt}
 use Rattle.tc_aead_cipher.specs.declared.phase.Phase.{Phase}
@@ -15,7 +14,7 @@ use Rattle.tc_aead_cipher.specs.declared.aead_error.AeadResult.the-variants.{Ok
 use Rattle.tc_aead_cipher.specs.declared.aead_init_error.AeadInitResult.{AeadInitResult}
 use Rattle.tc_aead_cipher.specs.declared.aead_init_error.AeadInitResult.the-variants.{Ok as StartOk, Err as StartErr}
 use Rattle.tc_sparkle_aead.specs.declared.message.Point.{Point}
-use Rattle.tc_sparkle_aead.specs.declared.engine.Mac.{Mac}
+use Rattle.tc_sparkle_aead.specs.declared.message.Mac.{Mac}
 use Rattle.tc_sparkle_aead.specs.declared.engine.Steps.{Steps}
 use Rattle.tc_sparkle_aead.specs.declared.engine.SparkleEngine.{SparkleEngine}
 use Rattle.tc_sparkle_aead.specs.declared.engine.Done.{Done}

@@ -15,7 +15,7 @@ use Rattle.tc_aead_cipher.specs.declared.phase.Direction.the-variants.{Encrypt,
 use Rattle.tc_aead_cipher.specs.declared.phase.Phase.{Phase}
 use Rattle.tc_aead_cipher.specs.Checks.{opening, keep, heldData}
 use Rattle.tc_sparkle_aead.specs.declared.message.Point.{Point}
-use Rattle.tc_sparkle_aead.specs.declared.engine.Mac.{Mac}
+use Rattle.tc_sparkle_aead.specs.declared.message.Mac.{Mac}
 use Rattle.tc_sparkle_aead.specs.declared.message.Progress.{Progress}
 use Rattle.tc_sparkle_aead.specs.declared.message.End.{End}
 
@@ -41,14 +41,14 @@ noMac = record { readable = false; bytes = zeros 32 }
 unfoldable pub readable : List ℕ → Mac
 readable tag = record { readable = true; bytes = inArray 32 tag }
 
--- The state in the engine's array of words, and the array with another state.
+-- The state in a point's array of words, and the array with another state.
 unfoldable pub stateIn : Params → List ℕ → List ℕ
 stateIn p words = take ((p .rate + p .key) / 4) words
 
 unfoldable pub putState : Params → List ℕ → List ℕ → List ℕ
 putState p words s = s ++ drop ((p .rate + p .key) / 4) words
 
--- Word k of the feedback and of the whitening, in the engine's array of words; half, rate and key are in words.
+-- Word k of the feedback and of the whitening, in a point's array of words; half, rate and key are in words.
 unfoldable pub feedbackAt : List ℕ → ℕ → ℕ → ℕ
 feedbackAt words half k =
     cond (ltb k half) (getD words (k + half) 0) (bitXor (getD words k 0) (getD words (k - half) 0))

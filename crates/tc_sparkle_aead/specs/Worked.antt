@@ -24,14 +24,16 @@ worked =
 -- A list with every call: an opening that a reset restarts, and the sealing of an empty message under another nonce.
 abbrev pub everyCall : List Call
 everyCall =
-    Call.Init Decrypt (replicate 16 0) (replicate 16 0) 16 []
-    ∷ (Call.Update 33
-    ∷ (Call.Output 33
-    ∷ (Call.Aad (replicate 1 0)
+    Call.Init Encrypt (replicate 16 0) (replicate 32 0) 15 []
+    ∷ (Call.Mac
+    ∷ (Call.Init Decrypt (replicate 16 0) (replicate 32 0) 16 (replicate 1 0)
     ∷ (Call.Data [] []
+    ∷ (Call.Update 49
+    ∷ (Call.Output 49
     ∷ (Call.Reset
-    ∷ (Call.Init Encrypt (replicate 16 0) (replicate 16 1) 16 []
-    ∷ (Call.Final (replicate 16 0) ∷ (Call.Mac ∷ []))))))))
+    ∷ (Call.Aad (replicate 1 0)
+    ∷ (Call.Init Encrypt (replicate 16 0) (replicate 32 1) 16 []
+    ∷ (Call.Final (replicate 16 0) ∷ (Call.Mac ∷ []))))))))))
 
 -- A line of the sheet.
 abbrev pub row : Outcome → ℕ → Bool → Line

@@ -6,11 +6,11 @@ ghost use Rattle.tc_sparkle_aead.specs.Engine.{updateOutputLen, outputLe
 ghost use Rattle.tc_sparkle_aead.specs.Calls.{init, processAadBytes, processBytes, processBytesOut, doFinal, doFinalOut, reset, macOf, stepsNow};
 use super::engine;
 use super::engine::Done;
-use super::engine::Mac;
 use super::engine::SparkleEngine;
 use super::engine::Started;
 use super::engine::Steps;
 use super::message;
+use super::message::Mac;
 use tc_aead_cipher::aead_error::AeadResult;
 use tc_aead_cipher::aead_init_error::AeadInitResult;
 use tc_aead_cipher::checks;
@@ -79,8 +79,8 @@ pub fn process_bytes(mut e: SparkleEngine, input: &[u8], output: &mut [u8]) -> D
     let AeadResult::Ok(_) = answer else {
         return Done { answer, engine: e };
     };
-    let start = message::begin_data(variant, at);
-    let done = message::data_in(variant, start, input, output);
+    let data_point = message::begin_data(variant, at);
+    let done = message::data_in(variant, data_point, input, output);
     let s = e.steps;
     let steps = engine::add_steps(s, message::begin_steps(variant, phase));
     e.steps = steps;
@@ -102,14 +102,15 @@ pub fn do_final(e: SparkleEngine, output: &mut [u8]) -> Done
     let AeadResult::Ok(_) = answer else {
         return Done { answer, engine: e };
     };
-    let start = message::begin_data(variant, at);
+    let data_point = message::begin_data(variant, at);
     let pair = e.pair;
+    let key = pair.key;
     let first = message::begin_steps(variant, phase);
     if checks::opening(phase) {
-        let end = message::open_end(variant, start, pair, output);
+        let end = message::open_end(variant, data_point, key, output);
         return engine::finish(e, answer, Direction::Decrypt, first, end);
     }
-    let end = message::seal_end(variant, start, pair, output);
+    let end = message::seal_end(variant, data_point, key, output);
     engine::finish(e, answer, Direction::Encrypt, first, end)
 }
 
@@ -142,7 +143,7 @@ pub fn reset(mut e: SparkleEngine) -> SparkleEngine
     let initial = e.initial;
     let steps = e.steps;
     let current = message::reset_point(phase, initial);
-    let mac = engine::no_mac();
+    let mac = message::no_mac();
     let back = Steps {
         current: steps.initial,
         initial: steps.initial,
@@ -158,7 +159,7 @@ pub fn mac(e: SparkleEngine) -> Mac
     ensures { λ r. ⌜ r ≡ macOf e ⌝ }
 {
     let m = e.mac;
-    if m.readable { m } else { engine::no_mac() }
+    if m.readable { m } else { message::no_mac() }
 }
 
 // The permutation steps of the current message, modulo 2^64.

@@ -4,12 +4,12 @@ ghost use mathlib.Core.Path.{_≡_};
 ghost use Rattle.tc_aead_cipher.specs.Variant.{paramsOf};
 ghost use Prim.Native.Nat.{_≤_};
 ghost use lib.ListN.{length};
-ghost use Rattle.tc_sparkle_aead.specs.Message.{noMac, beginPoint};
 ghost use Rattle.tc_sparkle_aead.specs.Engine.{newEngine, noPair, repeats, remember};
 ghost use Rattle.tc_sparkle_aead.specs.Calls.{addSteps, atPoint, refused, started, answered, finish};
 use super::bytes;
 use super::message;
 use super::message::End;
+use super::message::Mac;
 use super::message::Point;
 use tc_aead_cipher::aead_error::AeadError;
 use tc_aead_cipher::aead_error::AeadResult;
@@ -22,12 +22,6 @@ pub struct Pair {
     pub(crate) loaded: bool,
     pub(crate) key: [u8; 32],
     pub(crate) nonce: [u8; 32],
-}
-
-// A tag and whether it can be read (the Rust's `Option<[u8; 32]>`).
-pub struct Mac {
-    pub readable: bool,
-    pub bytes: [u8; 32],
 }
 
 // The permutation steps of the current message, and how many they were after init.
@@ -72,7 +66,7 @@ pub fn new(variant: SparkleVariant) -> SparkleEngine
             key: [0; 32],
             nonce: [0; 32],
         },
-        mac: no_mac(),
+        mac: message::no_mac(),
         steps: Steps {
             current: 0,
             initial: 0,
@@ -126,15 +120,6 @@ pub(crate) fn at_point(mut e: SparkleEngine, at: Point, n: u64) -> SparkleEngine
     e
 }
 
-pub(crate) fn no_mac() -> Mac
-    ensures { λ r. ⌜ r ≡ noMac ⌝ }
-{
-    Mac {
-        readable: false,
-        bytes: [0; 32],
-    }
-}
-
 // Whether a key and a nonce are the last loaded pair; both are looked at whole.
 pub(crate) fn repeats(variant: SparkleVariant, pair: Pair, key: &[u8], nonce: &[u8]) -> bool
     ensures { λ r. ⌜ r ≡ repeats (paramsOf variant) pair (now (key .entry)) (now (nonce .entry)) ⌝ }
@@ -174,7 +159,7 @@ pub(crate) fn refused(mut e: SparkleEngine) -> SparkleEngine
     ensures { λ r. ⌜ r ≡ refused e ⌝ }
 {
     let none = message::no_message();
-    let mac = no_mac();
+    let mac = message::no_mac();
     let steps = Steps {
         current: 0,
         initial: 0,
@@ -200,7 +185,7 @@ pub(crate) fn start(
     let at = message::start_point(variant, d, key, nonce);
     let point = message::absorb(variant, d, at, header);
     let pair = remember(key, nonce);
-    let mac = no_mac();
+    let mac = message::no_mac();
     let count = std::num::wrapping_add_u64(
         variant.big_steps() as u64,
         message::header_steps(variant, at, header),
@@ -233,8 +218,8 @@ pub(crate) fn finish(
     let point = message::final_point(d);
     let mac = end.mac;
     let s = e.steps;
-    let begins = add_steps(s, first);
-    let steps = add_steps(begins, end.steps);
+    let begun_steps = add_steps(s, first);
+    let steps = add_steps(begun_steps, end.steps);
     e.current = point;
     e.mac = mac;
     e.steps = steps;

@@ -2,20 +2,15 @@
 // engine.rs): it goes by the message's point, and the call puts the engine together.
 ghost use mathlib.Core.Path.{_≡_};
 ghost use Rattle.tc_aead_cipher.specs.Variant.{paramsOf};
-ghost use mathlib.Core.List.{_++_};
 ghost use Prim.Native.Nat.{_+_, _*_, _≤_, _<_};
 ghost use mathlib.Core.Bool.{cond};
 ghost use lib.Dec.{ltb};
 ghost use lib.ListN.{length, take};
 ghost use Rattle.schwaemm.specs.Schwaemm.{messageBlock};
 ghost use Rattle.tc_aead_cipher.specs.Checks.{keep};
-ghost use Rattle.tc_sparkle_aead.specs.Message.{noMessage, bufferedCount, blockCount, streamed, startPoint, absorbHeader, headerSteps, beginPoint, beginSteps, streamOut, afterHeader, withoutHeader, plainOf, dataFrom, written, finalPoint, stateIn, putState, lastState, resetPoint, sealEnd, sealOut, openEnd, openOut};
-ghost use Rattle.tc_sparkle_aead.specs.Engine.{currentKey};
+ghost use Rattle.tc_sparkle_aead.specs.Message.{noMessage, noMac, bufferedCount, blockCount, streamed, startPoint, absorbHeader, headerSteps, beginPoint, beginSteps, streamOut, afterHeader, withoutHeader, plainOf, dataFrom, written, finalPoint, stateIn, putState, lastState, resetPoint, sealEnd, sealOut, openEnd, openOut};
 use super::blocks;
 use super::bytes;
-use super::engine;
-use super::engine::Mac;
-use super::engine::Pair;
 use tc_aead_cipher::checks;
 use tc_aead_cipher::phase::Direction;
 use tc_aead_cipher::phase::Phase;
@@ -28,6 +23,12 @@ pub struct Point {
     pub(crate) words: [u32; 16],
     pub(crate) buffer: [u8; 64],
     pub(crate) held: usize,
+}
+
+// A tag and whether it can be read (the Rust's `Option<[u8; 32]>`).
+pub struct Mac {
+    pub readable: bool,
+    pub bytes: [u8; 32],
 }
 
 // Where a part of a call leads: the point, and the steps that it runs.
@@ -94,6 +95,15 @@ pub(crate) fn absorb(variant: SparkleVariant, d: Direction, at: Point, header: &
 }
 
 // ---- a point after the end or a reset, and no tag
+
+pub(crate) fn no_mac() -> Mac
+    ensures { λ r. ⌜ r ≡ noMac ⌝ }
+{
+    Mac {
+        readable: false,
+        bytes: [0; 32],
+    }
+}
 
 // The message has ended: words and buffer are wiped.
 pub(crate) fn final_point(d: Direction) -> Point
@@ -281,15 +291,14 @@ fn last_steps(variant: SparkleVariant, n: usize) -> u64
 }
 
 // The end of a sealing: the last bytes and the tag.
-pub(crate) fn seal_end(variant: SparkleVariant, at: Point, pair: Pair, output: &mut [u8]) -> End
+pub(crate) fn seal_end(variant: SparkleVariant, at: Point, key: [u8; 32], output: &mut [u8]) -> End
     requires { ⌜ (bufferedCount (paramsOf variant) (at .phase) (at .held) ≤ paramsOf variant .rate) × (bufferedCount (paramsOf variant) (at .phase) (at .held) + paramsOf variant .key ≤ length (now output)) ⌝ }
-    ensures { λ r. ⌜ r ≡ sealEnd (paramsOf variant) (currentKey (paramsOf variant) pair) at ⌝ }
-    ensures { λ _. ⌜ now (output .exit) ≡ written (sealOut (paramsOf variant) (currentKey (paramsOf variant) pair) at) (now (output .entry)) ⌝ }
+    ensures { λ r. ⌜ r ≡ sealEnd (paramsOf variant) (take (paramsOf variant .key) key) at ⌝ }
+    ensures { λ _. ⌜ now (output .exit) ≡ written (sealOut (paramsOf variant) (take (paramsOf variant .key) key) at) (now (output .entry)) ⌝ }
 {
     let phase = at.phase;
     let words = at.words;
     let buffer = at.buffer;
-    let key = pair.key;
     let held = buffered_count(variant, phase, at.held);
     let bytes = blocks::crypt(variant, words, buffer, held);
     let tag = blocks::make_tag(variant, last_words(variant, words, buffer, held), key);
@@ -305,15 +314,14 @@ pub(crate) fn seal_end(variant: SparkleVariant, at: Point, pair: Pair, output: &
 }
 
 // The end of an opening: the last bytes where the received tag is right, else zeros in their place.
-pub(crate) fn open_end(variant: SparkleVariant, at: Point, pair: Pair, output: &mut [u8]) -> End
+pub(crate) fn open_end(variant: SparkleVariant, at: Point, key: [u8; 32], output: &mut [u8]) -> End
     requires { ⌜ (paramsOf variant .key ≤ bufferedCount (paramsOf variant) (at .phase) (at .held)) × (bufferedCount (paramsOf variant) (at .phase) (at .held) ≤ paramsOf variant .rate + paramsOf variant .key) × (bufferedCount (paramsOf variant) (at .phase) (at .held) ≤ length (now output) + paramsOf variant .key) ⌝ }
-    ensures { λ r. ⌜ r ≡ openEnd (paramsOf variant) (currentKey (paramsOf variant) pair) at ⌝ }
-    ensures { λ _. ⌜ now (output .exit) ≡ written (openOut (paramsOf variant) (currentKey (paramsOf variant) pair) at) (now (output .entry)) ⌝ }
+    ensures { λ r. ⌜ r ≡ openEnd (paramsOf variant) (take (paramsOf variant .key) key) at ⌝ }
+    ensures { λ _. ⌜ now (output .exit) ≡ written (openOut (paramsOf variant) (take (paramsOf variant .key) key) at) (now (output .entry)) ⌝ }
 {
     let phase = at.phase;
     let words = at.words;
     let buffer = at.buffer;
-    let key = pair.key;
     let size = variant.tag_bytes();
     let body = buffered_count(variant, phase, at.held) - size;
     let plain = blocks::crypt(variant, words, buffer, body);
@@ -332,7 +340,7 @@ pub(crate) fn open_end(variant: SparkleVariant, at: Point, pair: Pair, output: &
     let zeros = [0u8; 64];
     bytes::put(output, 0, &zeros, body);
     End {
-        mac: engine::no_mac(),
+        mac: no_mac(),
         steps,
     }
 }

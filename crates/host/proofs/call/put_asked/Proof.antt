@@ -13,7 +13,7 @@ use Rattle.tc_aead_cipher.specs.declared.call.CallKind.{CallKind}
 use Rattle.tc_aead_cipher.specs.declared.call.CallKind.the-variants.{Init, Aad, Data, Final, Reset, Mac, Update, Output}
 use Rattle.tc_aead_cipher.proofs.call.CallKind.{the-type}
 use Rattle.tc_sparkle_aead.specs.declared.engine.SparkleEngine.{SparkleEngine}
-use Rattle.tc_sparkle_aead.specs.declared.engine.Mac.{Mac as Tag}
+use Rattle.tc_sparkle_aead.specs.declared.message.Mac.{Mac as Tag}
 use Rattle.tc_sparkle_aead.specs.Calls.{macOf}
 use Rattle.host.specs.CallList.{shownBy, tagged}
 use Rattle.host.proofs.call.put_asked.Statement.{statement}

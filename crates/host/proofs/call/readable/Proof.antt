@@ -1,7 +1,7 @@
 -- Whether a tag can be read, as a byte.
 use mathlib.Core.Path.{sym, ap, _∙_}
 use borrow.Author.Needs.{needs}
-use Rattle.tc_sparkle_aead.specs.declared.engine.Mac.{Mac}
+use Rattle.tc_sparkle_aead.specs.declared.message.Mac.{Mac}
 use Rattle.host.specs.CallList.{flag}
 use Rattle.host.proofs.call.readable.Statement.{statement}
 use Rattle.host.proofs.call.readable.Tie as tie

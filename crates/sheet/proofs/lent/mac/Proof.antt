@@ -5,8 +5,8 @@ use Rattle.sheet.proofs.OwnQuery.{own-query}
 use contract.Running.{tablesOf}
 use denote.Struct.Laws as LL
 use Rattle.tc_sparkle_aead.specs.Calls.{macOf}
-use Rattle.tc_sparkle_aead.proofs.engine.Mac as T
-use Rattle.tc_sparkle_aead.proofs.engine.Mac.Laws as T′
+use Rattle.tc_sparkle_aead.proofs.message.Mac as T
+use Rattle.tc_sparkle_aead.proofs.message.Mac.Laws as T′
 use Rattle.entry_calls.proofs.aead_cipher.mac as g
 use Rattle.entry_calls.proofs.aead_cipher.mac.Symbol as g-def
 use Rattle.entry_calls.proofs.aead_cipher.mac.Met as g-thm

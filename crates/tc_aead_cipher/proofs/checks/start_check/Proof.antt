@@ -1,7 +1,6 @@
 -- `start_check` meets its contract: each answer is a law of `startCheck`.
 use mathlib.Core.Path.{refl, sym, _∙_}
 use native.Mathlib.Omega.{arith}
-use Rattle.tc_aead_cipher.specs.Variant.{paramsOf}
 use Rattle.tc_aead_cipher.proofs.CheckLaws.{startCheck-key, startCheck-nonce, startCheck-size, startCheck-opening, startCheck-sealing}
 use borrow.Author.Needs.{needs}
 use Rattle.tc_aead_cipher.proofs.checks.start_check.Statement.{statement}

@@ -1,6 +1,7 @@
 -- `do_final` goes by its check, and where that passes by the direction; a check that passes gives the callees their room.
 use mathlib.Core.Path.{sym, _∙_}
 use borrow.Author.Needs.{needs}
+use Rattle.tc_sparkle_aead.specs.Engine.{currentKey}
 use Rattle.tc_sparkle_aead.proofs.FinalLaws.{Accepted, seal-fits, final-sealed, final-sealed-out, open-fits, final-opened, final-opened-out, final-refused, final-refused-out}
 use Rattle.tc_sparkle_aead.proofs.aead_cipher.do_final.Statement.{statement}
 use Rattle.tc_sparkle_aead.proofs.aead_cipher.do_final.Tie as tie
@@ -8,12 +9,12 @@ use Rattle.tc_sparkle_aead.proofs.aead_cipher.do_final.Tie as tie
 -- what is known where the direction is told
 accepted : (c : tie.After-opening)
     → Accepted
-    (c .before .before .before .before .before .before .before .before .before .args .e)
-    (c .before .before .before .begin-data .result)
-    (c .before .before .before .before .before .before .before .before .before .args .output .now)
-    (c .before .before .before .before .enum-told .given .0 .0) (c .opening .result)
+    (c .before .before .before .before .before .before .before .before .before .before .args .e)
+    (c .before .before .before .before .begin-data .result)
+    (c .before .before .before .before .before .before .before .before .before .before .args .output .now)
+    (c .before .before .before .before .before .enum-told .given .0 .0) (c .opening .result)
 accepted c =
-    let begun = c .before .before .before in
+    let begun = c .before .before .before .before in
     let told = begun .before in
     record {
       passed = sym (told .before .before .end-check .ensures) ∙ told .enum-told .given .1;
@@ -33,11 +34,12 @@ open-end-requires : tie.Need-open-end-requires
 open-end-requires c κs = open-fits (accepted (c .before .before)) (c .before .if1 .taken)
 
 returns-2 : tie.Need-returns-2
+unfolding currentKey
 returns-2 c =
     let end = c .before .before .before in
     let branch = end .before .before in
     let first = branch .before .before in
-    let told = first .before .before .before in
+    let told = first .before .before .before .before in
     let t = accepted (branch .before) in (
       final-opened t (branch .if1 .taken) _ (told .enum-told .given .1) _ (first .begin-steps .ensures) _ _
           (end .open-end .ensures .0) _ (c .finish .ensures),
@@ -48,11 +50,12 @@ seal-end-requires : tie.Need-seal-end-requires
 seal-end-requires c κs = seal-fits (accepted (c .before .before)) (c .before .if1 .left)
 
 returns-3 : tie.Need-returns-3
+unfolding currentKey
 returns-3 c =
     let end = c .before .before .before in
     let branch = end .before .before in
     let first = branch .before .before in
-    let told = first .before .before .before in
+    let told = first .before .before .before .before in
     let t = accepted (branch .before) in (
       final-sealed t (branch .if1 .left) _ (told .enum-told .given .1) _ (first .begin-steps .ensures) _ _
           (end .seal-end .ensures .0) _ (c .finish2 .ensures),

@@ -8,7 +8,6 @@ use lib.ListN.{length, take, drop}
 use lib.Seq.{take-take}
 use Rattle.schwaemm.specs.Bytes.{same}
 use Rattle.tc_sparkle_aead.specs.Message.{zeros}
-use Rattle.tc_sparkle_aead.specs.Engine.{currentKey}
 use Rattle.tc_aead_cipher.proofs.VariantLaws.{small}
 use Rattle.tc_sparkle_aead.proofs.EndLaws.{Opening, opening-is, opened, opened-out, unopened, unopened-out}
 use Rattle.tc_sparkle_aead.proofs.message.open_end.Statement.{statement}
@@ -20,7 +19,7 @@ words-long s = search needs
 buffer-long : (s : tie.Start) → length (s .args .at .buffer) ≡ 64
 buffer-long s = search needs
 
-key-long : (s : tie.Start) → length (s .args .pair .key) ≡ 32
+key-long : (s : tie.Start) → length (s .args .key) ≡ 32
 key-long s = search needs
 
 -- the held bytes end with a tag, and what is before it fits a block and the output
@@ -28,10 +27,10 @@ fits : (c : tie.After-buffered-count)
     → (c .before .tag-bytes .result ≤ 32) × (c .before .tag-bytes .result ≤ c .buffered-count .result)
     × (c .buffered-count .result ≤ 64)
     × (c .buffered-count .result
-    ≤ length (c .before .before .before .before .before .before .args .output .now) + c .before .tag-bytes .result)
+    ≤ length (c .before .before .before .before .before .args .output .now) + c .before .tag-bytes .result)
 fits c =
     let sized = c .before in
-    let s = sized .before .before .before .before .before in
+    let s = sized .before .before .before .before in
     omega (arith, c .buffered-count .ensures, sized .tag-bytes .ensures, small (s .args .variant), s .pre)
 
 sub-same-bytes : tie.Need-sub-same-bytes
@@ -42,7 +41,7 @@ part-same-bytes-start c = omega (arith, fits (c .before .before .before .before 
 
 part-same-bytes-end : tie.Need-part-same-bytes-end
 part-same-bytes-end c =
-    omega (arith, buffer-long (c .before .before .before .before .before .before .before .before .before .before .before))
+    omega (arith, buffer-long (c .before .before .before .before .before .before .before .before .before .before))
 
 same-bytes-requires : tie.Need-same-bytes-requires
 same-bytes-requires c κs = omega (arith, fits (c .before .before .before .before .before .before .before))
@@ -56,9 +55,9 @@ put-requires-2 c κs = omega (arith, fits (c .before .before .before .before .be
 -- what is computed before the verdict's branch
 computed : (c : tie.After-same-bytes)
     → Opening
-    (c .before .before .before .before .before .before .before .before .before .before .before .before .before .before .args .variant)
-    (c .before .before .before .before .before .before .before .before .before .before .before .before .before .before .args .at)
-    (c .before .before .before .before .before .before .before .before .before .before .before .before .before .before .args .pair .key)
+    (c .before .before .before .before .before .before .before .before .before .before .before .before .before .args .variant)
+    (c .before .before .before .before .before .before .before .before .before .before .before .before .before .args .at)
+    (c .before .before .before .before .before .before .before .before .before .before .before .before .before .args .key)
     (c .before .before .before .before .before .before .before .before .buffered-count .result
     - c .before .before .before .before .before .before .before .before .before .tag-bytes .result)
     (c .before .before .before .before .before .before .before .crypt .result)
@@ -68,14 +67,14 @@ computed c =
     let counted = c .before .before .before .before .before .before .before .before in
     let made = c .before .before .before .before .before in
     let sized = counted .before in
-    let s = sized .before .before .before .before .before in
+    let s = sized .before .before .before .before in
     let held = counted .buffered-count .ensures in
     let size = sized .tag-bytes .ensures in
     let n = sized .tag-bytes .result in
     let body = counted .buffered-count .result - n in
     let part = take (64 - body) (drop body (s .args .at .buffer)) in
     let verdict : c .same-bytes .result ≡ same (take n part) (take n (made .make-tag .result)) = c .same-bytes .ensures in
-    opening-is (s .args .variant) (s .args .at) (s .args .pair .key) (words-long s) (buffer-long s) (key-long s) _ _
+    opening-is (s .args .variant) (s .args .at) (s .args .key) (words-long s) (buffer-long s) (key-long s) _ _
     held size (omega (arith, held, size, s .pre)) (omega (arith, held, s .pre)) _ _ _ _ _
     (made .before .before .crypt .ensures) (made .before .last-words .ensures) (made .make-tag .ensures)
     (c .before .before .before .before .last-steps .ensures)
@@ -84,7 +83,6 @@ computed c =
     (take-take n (64 - body) (drop body (s .args .at .buffer)) (omega (arith, fits counted))))
 
 returns : tie.Need-returns
-unfolding currentKey
 returns c =
     let put = c .before .before in
     let branch = put .before .before .before in
@@ -92,7 +90,7 @@ returns c =
     (opened o (branch .if1 .taken), opened-out o _ _ (branch .if1 .taken) (put .put .ensures))
 
 returns-2 : tie.Need-returns-2
-unfolding zeros currentKey
+unfolding zeros
 returns-2 c =
     let put = c .before .before .before in
     let branch = put .before .before .before in

@@ -3,7 +3,6 @@ use mathlib.Core.Path.{_≡_}
 use native.Mathlib.Omega.{arith}
 use borrow.Author.Needs.{needs}
 use lib.ListN.{length}
-use Rattle.tc_sparkle_aead.specs.Engine.{currentKey}
 use Rattle.tc_aead_cipher.proofs.VariantLaws.{small}
 use Rattle.tc_sparkle_aead.proofs.EndLaws.{sealed, sealed-out}
 use Rattle.tc_sparkle_aead.proofs.message.seal_end.Statement.{statement}
@@ -15,20 +14,20 @@ words-long s = search needs
 buffer-long : (s : tie.Start) → length (s .args .at .buffer) ≡ 64
 buffer-long s = search needs
 
-key-long : (s : tie.Start) → length (s .args .pair .key) ≡ 32
+key-long : (s : tie.Start) → length (s .args .key) ≡ 32
 key-long s = search needs
 
 put-requires : tie.Need-put-requires
 put-requires c κs =
     let counted = c .before .before .before .before .before in
-    let s = counted .before .before .before .before .before in
+    let s = counted .before .before .before .before in
     omega (arith, counted .buffered-count .ensures, small (s .args .variant), s .pre)
 
 put-requires-2 : tie.Need-put-requires-2
 put-requires-2 c κs =
     let put = c .before .before .before .before .before in
     let counted = put .before .before .before .before .before .before in
-    let s = counted .before .before .before .before .before in
+    let s = counted .before .before .before .before in
     omega (
       arith,
       counted .buffered-count .ensures,
@@ -39,16 +38,15 @@ put-requires-2 c κs =
     )
 
 returns : tie.Need-returns
-unfolding currentKey
 returns c =
     let tagged = c .before .before .before in
     let put = tagged .before .before .before .before .before .before in
     let made = put .before .before .before in
     let counted = made .before .before .before in
-    let s = counted .before .before .before .before .before in
+    let s = counted .before .before .before .before in
     let v = s .args .variant in
     let at = s .args .at in
-    let key = s .args .pair .key in
+    let key = s .args .key in
     let held = counted .buffered-count .ensures in (
       sealed v at key (words-long s) (buffer-long s) (key-long s) _ held _ _ (made .before .last-words .ensures)
           (made .make-tag .ensures) _ (c .last-steps .ensures),

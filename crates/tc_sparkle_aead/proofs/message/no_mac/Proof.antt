@@ -1,8 +1,8 @@
 -- `no_mac` is no readable tag, by computation.
 use mathlib.Core.Path.{refl}
 use Rattle.tc_sparkle_aead.specs.Message.{zeros, noMac}
-use Rattle.tc_sparkle_aead.proofs.engine.no_mac.Statement.{statement}
-use Rattle.tc_sparkle_aead.proofs.engine.no_mac.Tie as tie
+use Rattle.tc_sparkle_aead.proofs.message.no_mac.Statement.{statement}
+use Rattle.tc_sparkle_aead.proofs.message.no_mac.Tie as tie
 
 returns : tie.Need-returns
 unfolding zeros noMac
