@@ -36,7 +36,7 @@ use Rattle.claims.proofs.InvariantKept.{opening-verified, seal-engine, 
 use Rattle.claims.proofs.Accepted.{data-good, end-good, data-passed-active, end-passed-active, EndPassed}
 use Rattle.claims.proofs.Accepted.{released-data, writes, message-writes, seal-bytes, seal-length, open-bytes}
 use Rattle.claims.proofs.Accepted.{open-length, last-length, is-open, end-count, active-opening}
-use Rattle.claims.proofs.EngineEnd.{sealBytes, ciphertext, openBytes, right}
+use Rattle.claims.proofs.EngineEnd.{sealBytes, ciphertext, openBytes, tagRight}
 
 -- What an end past its checks answers and writes: a sealing's, and an opening's, by whether the packet is verified.
 pub record SealEnd (v : SparkleVariant) (r : Reader) (out : List ℕ) (n : ℕ) (result : StepResult) : Type 0 where
@@ -117,7 +117,7 @@ module _ (v : SparkleVariant) (loads : List Load) (initial header body : List �
       (record {
         engine = cond b (openFinal e n) (sealFinal e n) .engine;
         outcome = outcome (cond b (openFinal e n) (sealFinal e n) .answer);
-        buffer = written (cond b (openOutBy (right e) (paramsOf (e .variant)) (e .current)) (sealBytes e)) out;
+        buffer = written (cond b (openOutBy (tagRight e) (paramsOf (e .variant)) (e .current)) (sealBytes e)) out;
       })
   unfolding sealFinal
   sealed-end t st true no-open e is ok = absurd (let z : _≡_ {A = ℕ} 0 1 = cc in omega arith)
@@ -145,7 +145,7 @@ module _ (v : SparkleVariant) (loads : List Load) (initial header body : List �
       (record {
         engine = cond b (openFinal e n) (sealFinal e n) .engine;
         outcome = outcome (cond b (openFinal e n) (sealFinal e n) .answer);
-        buffer = written (cond b (openOutBy (right e) (paramsOf (e .variant)) (e .current)) (sealBytes e)) out;
+        buffer = written (cond b (openOutBy (tagRight e) (paramsOf (e .variant)) (e .current)) (sealBytes e)) out;
       })
   unfolding openFinal
   opened-end t st false is-opening e is enough ok = absurd (let z : _≡_ {A = ℕ} 0 1 = cc in omega arith)
@@ -155,7 +155,7 @@ module _ (v : SparkleVariant) (loads : List Load) (initial header body : List �
       subst (λ (g : Bool). OpenEnd v (readerOf loads initial phase header body) out n
       (verified p key nonce header body)
       (record { engine = openFinalBy g e n .engine; outcome = outcome (openFinalBy g e n .answer); buffer = written (openOutBy g (paramsOf (e .variant)) (e .current)) out }))
-      (sym (ap (λ (y : SparkleEngine). right y) is ∙ opening-verified v loads initial f l header body enough))
+      (sym (ap (λ (y : SparkleEngine). tagRight y) is ∙ opening-verified v loads initial f l header body enough))
       (by l (verified p key nonce header body))
     where
       by : isLoaded loads ≡ true → (g : Bool) → OpenEnd v (readerOf loads initial phase header body) out n g

@@ -44,7 +44,7 @@ use Rattle.tc_aead_cipher.specs.Call.{Call}
 use Rattle.tc_aead_cipher.specs.Outcome.{Outcome, outcome, startOutcome}
 use Rattle.tc_sparkle_aead.specs.Sheet.{step}
 use Rattle.tc_aead_cipher.specs.Outcome.Outcome.{ok, no}
-use Rattle.claims.specs.Refused.{Returned, work-done, numbered-refusal, Active, in-init, in-aad, in-data, HasDirection, heldTag, rightTag}
+use Rattle.claims.specs.Refused.{Returned, work-done, numbered-refusal, Active, in-init, in-aad, in-data, HasDirection, receivedTagOf, computedTag}
 use Rattle.claims.specs.Refused.{Repeats, no-message, of-init, of-aad, of-data, of-final, heldAt, engineHeld, keyOf}
 use Rattle.claims.specs.Refused.{rateOf, dataWrites, endWrites, outputSum, Refused, key-length, nonce-length, mac-size}
 use Rattle.claims.specs.Refused.{data-room, end-room, no-tag, tag-differs, data-sum, update-sum, output-sum}
@@ -52,7 +52,7 @@ use Rattle.claims.specs.Refused.{header-not-initialized, data-not-initia
 use Rattle.claims.specs.Refused.{header-finalized, data-finalized, end-finalized, nonce-reuse, OfStart, one, two, three}
 use Rattle.claims.specs.Refused.{eleven, Unchanging, four, five, seven, eight, nine, ten, Numbered, of-start, of-tag}
 use Rattle.claims.specs.Refused.{unchanging, Wiped, Unchanged, Failed}
-use Rattle.claims.proofs.EngineEnd.{ciphertext, right}
+use Rattle.claims.proofs.EngineEnd.{ciphertext, tagRight}
 
 -- ---- The checks, by the phases that take calls
 
@@ -207,7 +207,7 @@ unfolding beginData withoutHeader afterHeader
 begun e d q = rw q
 
 opening-end : (e : SparkleEngine) (n : ℕ) (b : Bool) → e .current .phase ≡ Data Decrypt
-    → right e ≡ b → finalBy (Ok n) e ≡ openFinalBy b e n
+    → tagRight e ≡ b → finalBy (Ok n) e ≡ openFinalBy b e n
 unfolding openFinal
 opening-end e n b q h = rw (begun e Decrypt q, h, q)
 
@@ -282,7 +282,7 @@ whole-in-data p phase k positive in-data whole = refl
 
 module _ (e : SparkleEngine) (out : List ℕ) (q : e .current .phase ≡ Data Decrypt) (whole : keyOf e ≤ engineHeld e)
     (enough : engineHeld e - keyOf e ≤ length out) where
-  open-count : heldTag e ≡ rightTag e → step e (Call.Final out) .outcome ≡ ok (engineHeld e - keyOf e)
+  open-count : receivedTagOf e ≡ computedTag e → step e (Call.Final out) .outcome ≡ ok (engineHeld e - keyOf e)
   unfolding step doFinal
   open-count equal =
       let t : Active Decrypt (e .current .phase) = rw q in-data in
@@ -389,15 +389,15 @@ module _ (e : SparkleEngine) where
     where
       by-tag : Active Decrypt (e .current .phase) → keyOf e ≤ engineHeld e → engineHeld e - keyOf e ≤ length out
           → Told e (Call.Final out) (step e (Call.Final out) .outcome)
-      by-tag t whole enough = go (right e) refl
+      by-tag t whole enough = go (tagRight e) refl
         where
           q : e .current .phase ≡ Data Decrypt
           q = whole-in-data _ _ _ (sizes (e .variant) .key-positive) t whole
 
-          go : (b : Bool) → right e ≡ b → Told e (Call.Final out) (step e (Call.Final out) .outcome)
+          go : (b : Bool) → tagRight e ≡ b → Told e (Call.Final out) (step e (Call.Final out) .outcome)
           go true equal = told-count (open-count e out q whole enough (equal-of-same _ _ equal))
           go false differs =
-              let wrong : heldTag e ≡ rightTag e → ⊥ =
+              let wrong : receivedTagOf e ≡ computedTag e → ⊥ =
               (λ equal. let w = same-of-equal _ _ equal in let z : _≡_ {A = ℕ} 0 1 = cc in omega arith)
               in told-number (tag-differs q whole enough wrong)
 
@@ -580,7 +580,7 @@ module _ (e : SparkleEngine) where
 -- ---- A failed tag
 
 opening-end-out : (e : SparkleEngine) (n : ℕ) (out : List ℕ) (b : Bool) → e .current .phase ≡ Data Decrypt
-    → right e ≡ b → finalOutBy (Ok n) e out ≡ written (openOutBy b (paramsOf (e .variant)) (e .current)) out
+    → tagRight e ≡ b → finalOutBy (Ok n) e out ≡ written (openOutBy b (paramsOf (e .variant)) (e .current)) out
 opening-end-out e n out b q h = rw (begun e Decrypt q, h, q)
 
 module _ (e : SparkleEngine) (array : length (e .current .buffer) ≡ 64) (q : e .current .phase ≡ Data Decrypt) where
@@ -593,7 +593,7 @@ module _ (e : SparkleEngine) (array : length (e .current .buffer) ≡ 64) (q : e
   length-openBlock = rw (length-take, length-held) (omega arith)
 
   module _ (out : List ℕ) (whole : keyOf e ≤ engineHeld e) (enough : engineHeld e - keyOf e ≤ length out)
-      (differs : heldTag e ≡ rightTag e → ⊥) where
+      (differs : receivedTagOf e ≡ computedTag e → ⊥) where
     failed : Failed e out
     unfolding step doFinal doFinalOut finalEngine addSteps lastSteps written zeros
     failed =

@@ -30,7 +30,7 @@ use Rattle.claims.specs.Reader.{Verdict, verdictOf, Reader, newReader, r
 use Rattle.claims.specs.Reader.{loadedKey, loadedNonce, readMessage, readEnd, endIn, read, notes, verdicts}
 use Rattle.claims.specs.Reader.Verdict.{None}
 use Rattle.claims.proofs.PublicState.{publicOf, asked, startNote, endNote, next-is, judged-is, line-is}
-use Rattle.claims.proofs.EngineEnd.{right}
+use Rattle.claims.proofs.EngineEnd.{tagRight}
 
 -- ---- Two engines of equal public state
 
@@ -95,7 +95,7 @@ pub record Linked (v : SparkleVariant) (e : SparkleEngine) (r : Reader) : Type 0
   pub pair : (key nonce : List ℕ) → repeats (paramsOf v) (e .pair) key nonce ≡ repeated r key nonce
   pub tag : (available n : ℕ) → endCheck (paramsOf v) (r .phase) (readerHeld (paramsOf v) r) available ≡ Ok n
       → opening (r .phase) ≡ true
-      → right (beginData e)
+      → tagRight (beginData e)
       ≡ verified (paramsOf v) (loadedKey r) (loadedNonce r) (r .header) (r .body)
 
 -- a start notes by its check
@@ -112,26 +112,26 @@ endCheck-held p phase a b available h =
     let w : whole p phase a ≡ whole p phase b = fun-ext (λ n. rw h refl) in
     simp (h, w)
 
-end-note : (p : Params) (r : Reader) (phase : Phase) (n available : ℕ) (right : Bool)
+end-note : (p : Params) (r : Reader) (phase : Phase) (n available : ℕ) (tagRight : Bool)
     → endCheck p phase (readerHeld p r) available ≡ Ok n
-    → (opening phase ≡ true → right ≡ verified p (loadedKey r) (loadedNonce r) (r .header) (r .body))
-    → cond (opening phase) (verdictOf right) None ≡ endIn phase p r .verdict
+    → (opening phase ≡ true → tagRight ≡ verified p (loadedKey r) (loadedNonce r) (r .header) (r .body))
+    → cond (opening phase) (verdictOf tagRight) None ≡ endIn phase p r .verdict
 unfolding endCheck
-end-note p r Uninitialized n available right c h = refl
-end-note p r (Init Encrypt) n available right c h = refl
-end-note p r (Init Decrypt) n available right c h = ap verdictOf (h refl)
-end-note p r (Aad Encrypt) n available right c h = refl
-end-note p r (Aad Decrypt) n available right c h = ap verdictOf (h refl)
-end-note p r (Data Encrypt) n available right c h = refl
-end-note p r (Data Decrypt) n available right c h = ap verdictOf (h refl)
-end-note p r (Final d) n available right c h = absurd (let z : _≡_ {A = ℕ} 0 1 = cc in omega arith)
+end-note p r Uninitialized n available tagRight c h = refl
+end-note p r (Init Encrypt) n available tagRight c h = refl
+end-note p r (Init Decrypt) n available tagRight c h = ap verdictOf (h refl)
+end-note p r (Aad Encrypt) n available tagRight c h = refl
+end-note p r (Aad Decrypt) n available tagRight c h = ap verdictOf (h refl)
+end-note p r (Data Encrypt) n available tagRight c h = refl
+end-note p r (Data Decrypt) n available tagRight c h = ap verdictOf (h refl)
+end-note p r (Final d) n available tagRight c h = absurd (let z : _≡_ {A = ℕ} 0 1 = cc in omega arith)
 
-readEnd-note : (p : Params) (r : Reader) (k : AeadResult) (available : ℕ) (right : Bool)
+readEnd-note : (p : Params) (r : Reader) (k : AeadResult) (available : ℕ) (tagRight : Bool)
     → endCheck p (r .phase) (readerHeld p r) available ≡ k
-    → ((n : ℕ) → k ≡ Ok n → opening (r .phase) ≡ true → right ≡ verified p (loadedKey r) (loadedNonce r) (r .header) (r .body))
-    → endNote k (opening (r .phase)) right ≡ readEnd k p r .verdict
-readEnd-note p r (Err x) available right c h = refl
-readEnd-note p r (Ok n) available right c h = end-note p r (r .phase) n available right c (h n refl)
+    → ((n : ℕ) → k ≡ Ok n → opening (r .phase) ≡ true → tagRight ≡ verified p (loadedKey r) (loadedNonce r) (r .header) (r .body))
+    → endNote k (opening (r .phase)) tagRight ≡ readEnd k p r .verdict
+readEnd-note p r (Err x) available tagRight c h = refl
+readEnd-note p r (Ok n) available tagRight c h = end-note p r (r .phase) n available tagRight c (h n refl)
 
 readHeader-note : (k : AeadResult) (r : Reader) (input : List ℕ) → readHeader k r input .verdict ≡ None
 readHeader-note (Err x) r input = refl
@@ -141,16 +141,16 @@ readMessage-note : (k : AeadResult) (r : Reader) (input : List ℕ) → readMess
 readMessage-note (Err x) r input = refl
 readMessage-note (Ok n) r input = refl
 
-end-asked : (v w : SparkleVariant) (r : Reader) (phase : Phase) (k available : ℕ) (right : Bool) → w ≡ v → phase ≡ r .phase
+end-asked : (v w : SparkleVariant) (r : Reader) (phase : Phase) (k available : ℕ) (tagRight : Bool) → w ≡ v → phase ≡ r .phase
     → heldData (paramsOf v) (r .phase) k ≡ heldData (paramsOf v) (r .phase) (readerHeld (paramsOf v) r)
     → ((n : ℕ) → endCheck (paramsOf v) (r .phase) (readerHeld (paramsOf v) r) available ≡ Ok n → opening (r .phase) ≡ true
-    → right ≡ verified (paramsOf v) (loadedKey r) (loadedNonce r) (r .header) (r .body))
-    → endNote (endCheck (paramsOf w) phase k available) (opening phase) right
+    → tagRight ≡ verified (paramsOf v) (loadedKey r) (loadedNonce r) (r .header) (r .body))
+    → endNote (endCheck (paramsOf w) phase k available) (opening phase) tagRight
     ≡ readEnd (endCheck (paramsOf v) (r .phase) (readerHeld (paramsOf v) r) available) (paramsOf v) r .verdict
-end-asked v w r phase k available right variant q h tag =
+end-asked v w r phase k available tagRight variant q h tag =
     let p = paramsOf v in
     rw (variant, q, endCheck-held p (r .phase) k (readerHeld p r) available h)
-    (readEnd-note p r (endCheck p (r .phase) (readerHeld p r) available) available right refl tag)
+    (readEnd-note p r (endCheck p (r .phase) (readerHeld p r) available) available tagRight refl tag)
 
 module _ (v : SparkleVariant) (e : SparkleEngine) (r : Reader) (l : Linked v e r) where
   pub asked-is-read : (c : Call) → asked e c ≡ read v r c .verdict
@@ -162,7 +162,7 @@ module _ (v : SparkleVariant) (e : SparkleEngine) (r : Reader) (l : Linked v e r
   asked-is-read (Call.Data input out) = rw readMessage-note
   asked-is-read (Call.Final out) =
       end-asked v (e .variant) r (e .current .phase) (e .current .held) (length out)
-      (right (beginData e)) (l .variant) (l .phase) (l .held) (l .tag (length out))
+      (tagRight (beginData e)) (l .variant) (l .phase) (l .held) (l .tag (length out))
   asked-is-read Call.Reset = refl
   asked-is-read Call.Mac = refl
   asked-is-read (Call.Update n) = refl

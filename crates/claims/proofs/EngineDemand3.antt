@@ -40,7 +40,7 @@ use Rattle.claims.proofs.PublicState.{length-inArray}
 use Rattle.claims.proofs.Demand1.{six-leaves}
 use Rattle.claims.proofs.Demand3.{Linked, sheets-and-verdicts, first-sheets-and-verdicts}
 use Rattle.claims.proofs.MachineDemand3.{engine-answers, engine-meets-3}
-use Rattle.claims.proofs.EngineEnd.{right}
+use Rattle.claims.proofs.EngineEnd.{tagRight}
 
 -- the held bytes count in Data, where point and reader agree
 held-linked : (p : Params) (key nonce header body : List ℕ) (phase : Phase)
@@ -63,16 +63,16 @@ module _ (v : SparkleVariant) (loads : List Load) (initial header body : List �
   -- an opening in a phase that takes an end, with a tag's bytes
   tag-active : {phase : Phase} → Active Decrypt phase → PhaseInvariant (paramsOf v) phase loads header body mac
       → paramsOf v .key ≤ length body
-      → right (beginData (engineOf v (readerOf loads initial phase header body) mac s))
+      → tagRight (beginData (engineOf v (readerOf loads initial phase header body) mac s))
       ≡ verified (paramsOf v) key nonce header body
   tag-active {phase} t st enough =
-      ap (λ (e : SparkleEngine). right e) (begin-data v loads initial f t header body mac s st)
+      ap (λ (e : SparkleEngine). tagRight e) (begin-data v loads initial f t header body mac s st)
       ∙ opening-verified v loads initial f (active-loaded v loads initial f t header body mac st) header body enough
 
   tag-linked : (phase : Phase) → PhaseInvariant (paramsOf v) phase loads header body mac → (available k : ℕ)
       → endCheck (paramsOf v) phase (readerHeld (paramsOf v) (readerOf loads initial phase header body)) available ≡ Ok k
       → opening phase ≡ true
-      → right (beginData (engineOf v (readerOf loads initial phase header body) mac s))
+      → tagRight (beginData (engineOf v (readerOf loads initial phase header body) mac s))
       ≡ verified (paramsOf v) key nonce header body
   unfolding endCheck
   tag-linked Uninitialized st available k passed opens = absurd (let z : _≡_ {A = ℕ} 0 1 = cc in omega arith)

@@ -32,7 +32,7 @@ use Rattle.tc_aead_cipher.specs.Checks.{opening, keep, heldData, dataCheck, end
 use Rattle.tc_sparkle_aead.specs.Message.{zeros, inArray, noMessage, noMac, stateIn, putState, buffered, stream, blockCount, streamed, startPoint, absorbHeader, headerSteps, plainOf, finalPoint, readable}
 use Rattle.tc_sparkle_aead.specs.Engine.{noPair, repeats, remember, currentKey, noSteps, newEngine}
 use Rattle.tc_aead_cipher.proofs.VariantLaws.{Small}
-use Rattle.claims.specs.Reader.{Load, Reader, newReader, remembered, load, lastKey, lastNonce, among, loadedKey}
+use Rattle.claims.specs.Reader.{Load, Reader, newReader, loadsKept, afterLoad, lastKey, lastNonce, isAmong, loadedKey}
 use Rattle.claims.specs.Reader.{loadedNonce, headerPhase}
 use Rattle.claims.proofs.Points.{take-inArray, held-nil, blockPoint, blockPoint-nil, buffered-aad}
 use Rattle.claims.proofs.Points.{buffered-data, state-point, blockCount-point, put-point, streamed-point, given-point}
@@ -119,7 +119,7 @@ AllFit p [] = Unit {0}
 AllFit p (l ∷ loads) = Fits p (l .key) (l .nonce) × AllFit p loads
 
 pub record LoadsFit (p : Params) (loads : List Load) : Type 0 where
-  pub at-most : length loads ≤ remembered
+  pub at-most : length loads ≤ loadsKept
   pub all-fit : AllFit p loads
 
 pub record Invariant (v : SparkleVariant) (e : SparkleEngine) (r : Reader) : Type 0 where
@@ -301,12 +301,12 @@ take-fits p (suc n) [] f = tt
 take-fits p (suc n) (l ∷ loads) f = (f .0, take-fits p n loads (f .1))
 
 pub load-fits : (p : Params) (loads : List Load) (key nonce : List ℕ) → LoadsFit p loads → Fits p key nonce
-    → LoadsFit p (load loads key nonce)
+    → LoadsFit p (afterLoad loads key nonce)
 load-fits p loads key nonce f g =
     let l : Load = record { key = key; nonce = nonce } in
     record {
-      at-most = omega (arith, length-take remembered (l ∷ loads));
-      all-fit = take-fits p remembered (l ∷ loads) (g, f .all-fit);
+      at-most = omega (arith, length-take loadsKept (l ∷ loads));
+      all-fit = take-fits p loadsKept (l ∷ loads) (g, f .all-fit);
     }
 
 pub last-fits : (p : Params) (loads : List Load) → LoadsFit p loads → isLoaded loads ≡ true
@@ -315,7 +315,7 @@ last-fits p [] f l = absurd (let z : _≡_ {A = ℕ} 0 1 = cc in omega arith)
 last-fits p (x ∷ loads) f l = f .all-fit .0
 
 -- what the engine remembers: one load more, the loaded key, and what is repeated
-pub pair-load : (loads : List Load) (key nonce : List ℕ) → remember (pairIn loads) key nonce ≡ pairIn (load loads key nonce)
+pub pair-load : (loads : List Load) (key nonce : List ℕ) → remember (pairIn loads) key nonce ≡ pairIn (afterLoad loads key nonce)
 unfolding remember
 pair-load loads key nonce = refl
 
@@ -331,7 +331,7 @@ cond-and true false = refl
 cond-and false b = refl
 
 pub repeats-agree : (p : Params) → Small p → (loads : List Load) → LoadsFit p loads → (key nonce : List ℕ)
-    → repeats p (pairIn loads) key nonce ≡ among loads key nonce
+    → repeats p (pairIn loads) key nonce ≡ isAmong loads key nonce
 unfolding repeats noPair remember
 repeats-agree p m [] f key nonce = refl
 repeats-agree p m (x ∷ []) f key nonce =

@@ -33,7 +33,7 @@ use Rattle.tc_aead_cipher.proofs.VariantLaws.{sizes, small}
 use Rattle.tc_aead_cipher.proofs.CheckLaws.{startCheck-lengths}
 use Rattle.tc_aead_cipher.specs.Call.{Call}
 use Rattle.tc_sparkle_aead.specs.Sheet.{step, runFrom, run}
-use Rattle.claims.specs.Reader.{Load, load, lastKey, lastNonce, loadedKey, loadedNonce, Reader, newReader, inPhase}
+use Rattle.claims.specs.Reader.{Load, afterLoad, lastKey, lastNonce, loadedKey, loadedNonce, Reader, newReader, inPhase}
 use Rattle.claims.specs.Reader.{headerPhase, readerHeld, repeated, readStart, readHeader, readMessage, readEnd, resetIn}
 use Rattle.claims.specs.Reader.{read, readFrom, reader}
 use Rattle.claims.specs.Refused.{Active}
@@ -420,7 +420,7 @@ start-keeps v r mac s f d key nonce header StartOk g =
       variant = v;
       current = headPoint p (headerPhase d header) key nonce header;
       initial = headPoint p (headerPhase d header) key nonce header;
-      pair = pairIn (load (r .loads) key nonce);
+      pair = pairIn (afterLoad (r .loads) key nonce);
       mac = noMac;
       steps = n;
     } =
@@ -434,7 +434,7 @@ start-keeps v r mac s f d key nonce header StartOk g =
     }
     in
     subst (λ (x : SparkleEngine). Invariant v x (readStart StartOk r d key nonce header .reader)) (sym e)
-    (restart v (load (r .loads) key nonce) header (load-fits p (r .loads) key nonce f (g refl)) refl d header n)
+    (restart v (afterLoad (r .loads) key nonce) header (load-fits p (r .loads) key nonce f (g refl)) refl d header n)
 
 -- ---- A call
 

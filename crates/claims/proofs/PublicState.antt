@@ -41,7 +41,7 @@ use Rattle.tc_aead_cipher.specs.Outcome.Outcome.{ok, no}
 use Rattle.claims.specs.Reader.{Verdict, verdictOf, startVerdict, refusedVerdict}
 use Rattle.claims.specs.Reader.Verdict.{Yes, No, None}
 use Rattle.claims.specs.Messages.{openOutcome, endOutcome}
-use Rattle.claims.proofs.EngineEnd.{ciphertext, right}
+use Rattle.claims.proofs.EngineEnd.{ciphertext, tagRight}
 
 -- ---- The public state
 
@@ -80,8 +80,8 @@ startNote StartOk d repeats = startVerdict d repeats
 
 -- An end: whether the tag is right, where it opens and its checks have passed.
 abbrev pub endNote : AeadResult → Bool → Bool → Verdict
-endNote (Err x) opens right = None
-endNote (Ok n) opens right = cond opens (verdictOf right) None
+endNote (Err x) opens tagRight = None
+endNote (Ok n) opens tagRight = cond opens (verdictOf tagRight) None
 
 unfoldable pub asked : SparkleEngine → Call → Verdict
 asked e (Call.Init d key nonce size header) =
@@ -91,7 +91,7 @@ asked e (Call.Aad input) = None
 asked e (Call.Data input out) = None
 asked e (Call.Final out) =
     endNote (endCheck (paramsOf (e .variant)) (e .current .phase) (e .current .held) (length out))
-    (opening (e .current .phase)) (right (beginData e))
+    (opening (e .current .phase)) (tagRight (beginData e))
 asked e Call.Reset = None
 asked e Call.Mac = None
 asked e (Call.Update n) = None
@@ -232,14 +232,14 @@ finalNext u d readable n =
     }
 
 abbrev pub endIn : Bool → Public → Bool → Public
-endIn false u right = finalNext u Encrypt true (publicHeld (paramsOf (u .variant)) (u .current))
-endIn true u right =
+endIn false u tagRight = finalNext u Encrypt true (publicHeld (paramsOf (u .variant)) (u .current))
+endIn true u tagRight =
     let p = paramsOf (u .variant) in
-    finalNext u Decrypt right (min (publicHeld p (u .current) - p .key) (publicHeld p (u .current)))
+    finalNext u Decrypt tagRight (min (publicHeld p (u .current) - p .key) (publicHeld p (u .current)))
 
 abbrev pub endNext : AeadResult → Public → Bool → Public
-endNext (Err x) u right = u
-endNext (Ok n) u right = endIn (opening (u .current .phase)) (beginNext (u .current .phase) u) right
+endNext (Err x) u tagRight = u
+endNext (Ok n) u tagRight = endIn (opening (u .current .phase)) (beginNext (u .current .phase) u) tagRight
 
 -- reset
 abbrev pub resetOutside : Phase → Outside → Outside
@@ -354,28 +354,28 @@ module _ (v : SparkleVariant) (key nonce size : ℕ) where
   start-judged d b = judged-by (startCheck-case v key nonce size d) b
 
 -- an end's answer and the public state after it need of the tag only what the verdict tells
-end-verdict : (k : AeadResult) (u : Public) (right : Bool)
-    → endNext k u right ≡ endNext k u (yes (endNote k (opening (u .current .phase)) right))
-end-verdict (Err x) u right = refl
-end-verdict (Ok n) u right = by (opening (u .current .phase)) right
+end-verdict : (k : AeadResult) (u : Public) (tagRight : Bool)
+    → endNext k u tagRight ≡ endNext k u (yes (endNote k (opening (u .current .phase)) tagRight))
+end-verdict (Err x) u tagRight = refl
+end-verdict (Ok n) u tagRight = by (opening (u .current .phase)) tagRight
   where
-    by : (o right : Bool) → endIn o (beginNext (u .current .phase) u) right
-        ≡ endIn o (beginNext (u .current .phase) u) (yes (cond o (verdictOf right) None))
+    by : (o tagRight : Bool) → endIn o (beginNext (u .current .phase) u) tagRight
+        ≡ endIn o (beginNext (u .current .phase) u) (yes (cond o (verdictOf tagRight) None))
     by true true = refl
     by true false = refl
-    by false right = refl
+    by false tagRight = refl
 
-end-verdict-shows : (k : AeadResult) (o right : Bool) → endOutcome k o right ≡ endOutcome k o (yes (endNote k o right))
-end-verdict-shows (Err x) o right = refl
+end-verdict-shows : (k : AeadResult) (o tagRight : Bool) → endOutcome k o tagRight ≡ endOutcome k o (yes (endNote k o tagRight))
+end-verdict-shows (Err x) o tagRight = refl
 end-verdict-shows (Ok n) true true = refl
 end-verdict-shows (Ok n) true false = refl
-end-verdict-shows (Ok n) false right = refl
+end-verdict-shows (Ok n) false tagRight = refl
 
-end-judged : (k : AeadResult) (o right : Bool) → endNote k o right ≡ endNote k o (isOk (endOutcome k o right))
-end-judged (Err x) o right = refl
+end-judged : (k : AeadResult) (o tagRight : Bool) → endNote k o tagRight ≡ endNote k o (isOk (endOutcome k o tagRight))
+end-judged (Err x) o tagRight = refl
 end-judged (Ok n) true true = refl
 end-judged (Ok n) true false = refl
-end-judged (Ok n) false right = refl
+end-judged (Ok n) false tagRight = refl
 
 -- The parts of the calls.
 absorb-public : (p : Params) (d : Direction) (at : Point) (header : List ℕ)
@@ -483,30 +483,30 @@ openFinal-public true e n = rw (length-openBlock e)
 openFinal-public false e n = rw (length-openBlock e)
 
 endIn-public : (o : Bool) (e : SparkleEngine) (n : ℕ)
-    → publicOf (cond o (openFinal e n) (sealFinal e n) .engine) ≡ endIn o (publicOf e) (right e)
+    → publicOf (cond o (openFinal e n) (sealFinal e n) .engine) ≡ endIn o (publicOf e) (tagRight e)
 unfolding openFinal sealFinal finalEngine lastSteps readable
-endIn-public true e n = openFinal-public (right e) e n
+endIn-public true e n = openFinal-public (tagRight e) e n
 endIn-public false e n = rw (length-buffered (paramsOf (e .variant)) (e .current))
 
 end-public : (k : AeadResult) (e : SparkleEngine)
-    → publicOf (finalBy k e .engine) ≡ endNext k (publicOf e) (right (beginData e))
+    → publicOf (finalBy k e .engine) ≡ endNext k (publicOf e) (tagRight (beginData e))
 end-public (Err x) e = refl
 end-public (Ok n) e =
     endIn-public (opening (e .current .phase)) (beginData e) n
-    ∙ ap (λ (u : Public). endIn (opening (e .current .phase)) u (right (beginData e))) (beginData-public e)
+    ∙ ap (λ (u : Public). endIn (opening (e .current .phase)) u (tagRight (beginData e))) (beginData-public e)
 
 openFinal-shows : (b : Bool) (e : SparkleEngine) (n : ℕ) → outcome (openFinalBy b e n .answer) ≡ openOutcome b n
 openFinal-shows true e n = refl
 openFinal-shows false e n = refl
 
 endIn-shows : (o : Bool) (e : SparkleEngine) (n : ℕ)
-    → outcome (cond o (openFinal e n) (sealFinal e n) .answer) ≡ endOutcome (Ok n) o (right e)
+    → outcome (cond o (openFinal e n) (sealFinal e n) .answer) ≡ endOutcome (Ok n) o (tagRight e)
 unfolding openFinal sealFinal
-endIn-shows true e n = openFinal-shows (right e) e n
+endIn-shows true e n = openFinal-shows (tagRight e) e n
 endIn-shows false e n = refl
 
 end-shows : (k : AeadResult) (e : SparkleEngine)
-    → outcome (finalBy k e .answer) ≡ endOutcome k (opening (e .current .phase)) (right (beginData e))
+    → outcome (finalBy k e .answer) ≡ endOutcome k (opening (e .current .phase)) (tagRight (beginData e))
 end-shows (Err x) e = refl
 end-shows (Ok n) e = endIn-shows (opening (e .current .phase)) (beginData e) n
 
@@ -550,7 +550,7 @@ next-is e (Call.Aad input) = header-public (aadCheck (e .current .phase) (length
 next-is e (Call.Data input out) = data-public (dataAnswer e (length input) (length out)) e input
 next-is e (Call.Final out) =
     end-public (finalAnswer e (length out)) e
-    ∙ end-verdict (finalAnswer e (length out)) (publicOf e) (right (beginData e))
+    ∙ end-verdict (finalAnswer e (length out)) (publicOf e) (tagRight (beginData e))
 next-is e Call.Reset = reset-public e
 next-is e Call.Mac = refl
 next-is e (Call.Update n) = refl
@@ -567,7 +567,7 @@ shows-is e (Call.Aad input) = header-shows (aadCheck (e .current .phase) (length
 shows-is e (Call.Data input out) = data-shows (dataAnswer e (length input) (length out)) e input
 shows-is e (Call.Final out) =
     end-shows (finalAnswer e (length out)) e
-    ∙ end-verdict-shows (finalAnswer e (length out)) (opening (e .current .phase)) (right (beginData e))
+    ∙ end-verdict-shows (finalAnswer e (length out)) (opening (e .current .phase)) (tagRight (beginData e))
 shows-is e Call.Reset = refl
 shows-is e Call.Mac = rw (mac-readable e)
 shows-is e (Call.Update n) = refl
@@ -584,7 +584,7 @@ judged-is e (Call.Aad input) = refl
 judged-is e (Call.Data input out) = refl
 judged-is e (Call.Final out) =
     rw (end-shows (finalAnswer e (length out)) e)
-    (end-judged (finalAnswer e (length out)) (opening (e .current .phase)) (right (beginData e)))
+    (end-judged (finalAnswer e (length out)) (opening (e .current .phase)) (tagRight (beginData e)))
 judged-is e Call.Reset = refl
 judged-is e Call.Mac = refl
 judged-is e (Call.Update n) = refl

@@ -290,11 +290,11 @@ start-not (StartErr (InvalidNonceLength n)) values q = let z : _≡_ {A = ℕ} 2
 start-not (StartErr (InvalidMacSize n)) values q = let z : _≡_ {A = ℕ} 3 10 = cc in omega arith
 start-not (StartErr NonceReuse) values q = let z : _≡_ {A = ℕ} 11 10 = cc in omega arith
 
-end-not : (k : AeadResult) (opens right : Bool) (values : List ℕ) → NotTen k → endOutcome k opens right ≡ no (10 ∷ values) → ⊥
-end-not (Err x) opens right values k q = k .never values q
+end-not : (k : AeadResult) (opens tagRight : Bool) (values : List ℕ) → NotTen k → endOutcome k opens tagRight ≡ no (10 ∷ values) → ⊥
+end-not (Err x) opens tagRight values k q = k .never values q
 end-not (Ok n) true true values k q = let z : _≡_ {A = ℕ} 0 1 = cc in omega arith
 end-not (Ok n) true false values k q = let z : _≡_ {A = ℕ} 6 10 = cc in omega arith
-end-not (Ok n) false right values k q = let z : _≡_ {A = ℕ} 0 1 = cc in omega arith
+end-not (Ok n) false tagRight values k q = let z : _≡_ {A = ℕ} 0 1 = cc in omega arith
 
 -- a header, a data call and an end, by the phase
 header-ten : (phase : Phase) (n : ℕ) (values : List ℕ) → outcome (aadCheck phase n) ≡ no (10 ∷ values)
@@ -327,18 +327,18 @@ past-not p phase held available =
     (then-not (totalLen p phase held 0) (room available) (total-not p phase held 0) (room-not available))
     (whole-not p phase held)
 
-end-ten : (p : Params) (phase : Phase) (held available : ℕ) (opens right : Bool) (values : List ℕ)
-    → endOutcome (endCheck p phase held available) opens right ≡ no (10 ∷ values) → (d : Direction) × (phase ≡ Final d)
+end-ten : (p : Params) (phase : Phase) (held available : ℕ) (opens tagRight : Bool) (values : List ℕ)
+    → endOutcome (endCheck p phase held available) opens tagRight ≡ no (10 ∷ values) → (d : Direction) × (phase ≡ Final d)
 unfolding endCheck
-end-ten p Uninitialized held available opens right values q =
+end-ten p Uninitialized held available opens tagRight values q =
     absurd (let z : _≡_ {A = ℕ} 8 10 = cc in omega arith)
-end-ten p (Init d) held available opens right values q =
-    absurd (end-not _ opens right values (past-not p (Init d) held available) q)
-end-ten p (Aad d) held available opens right values q =
-    absurd (end-not _ opens right values (past-not p (Aad d) held available) q)
-end-ten p (Data d) held available opens right values q =
-    absurd (end-not _ opens right values (past-not p (Data d) held available) q)
-end-ten p (Final d) held available opens right values q = (d, refl)
+end-ten p (Init d) held available opens tagRight values q =
+    absurd (end-not _ opens tagRight values (past-not p (Init d) held available) q)
+end-ten p (Aad d) held available opens tagRight values q =
+    absurd (end-not _ opens tagRight values (past-not p (Aad d) held available) q)
+end-ten p (Data d) held available opens tagRight values q =
+    absurd (end-not _ opens tagRight values (past-not p (Data d) held available) q)
+end-ten p (Final d) held available opens tagRight values q = (d, refl)
 
 pub ten-only-in-final : (v : SparkleVariant) (r : Reader) (c : Call) (values : List ℕ) → answerOf v r c ≡ no (10 ∷ values)
     → (d : Direction) × (r .phase ≡ Final d)

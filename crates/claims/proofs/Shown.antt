@@ -94,9 +94,9 @@ unfolding readable noMac
 shown-is true tag = refl
 shown-is false tag = refl
 
-end-shows : (opens right before : Bool) (n : ℕ) → cond opens right true ≡ shownByEnd (Ok n) opens right before
-end-shows true right before n = refl
-end-shows false right before n = refl
+end-shows : (opens tagRight before : Bool) (n : ℕ) → cond opens tagRight true ≡ shownByEnd (Ok n) opens tagRight before
+end-shows true tagRight before n = refl
+end-shows false tagRight before n = refl
 
 module _ (v : SparkleVariant) (e : SparkleEngine) (r : Reader) (w : Invariant v e r) where
   end-step : (out : List ℕ) → macOf (step e (Call.Final out) .engine) .readable

@@ -33,7 +33,7 @@ use Rattle.tc_sparkle_aead.specs.Sheet.{StepResult, step, runFrom, run}
 use Rattle.tc_aead_cipher.specs.Outcome.{Outcome, outcome, startOutcome}
 use Rattle.claims.specs.Refused.{Active}
 use Rattle.claims.specs.Reader.{Reader, readerHeld, headerPhase, repeated, aadPhase, dataPhase, readHeader, readMessage}
-use Rattle.claims.specs.Reader.{Load, loadedKey, loadedNonce, lastKey, load, lastNonce, readStart, readEnd, read}
+use Rattle.claims.specs.Reader.{Load, loadedKey, loadedNonce, lastKey, afterLoad, lastNonce, readStart, readEnd, read}
 use Rattle.claims.specs.Reader.{readFrom, reader}
 use Rattle.claims.specs.Messages.{released, Writes, countOf, wrote, outputs, headerIn, dataOf, RefusedByCheck, Between}
 use Rattle.claims.specs.Messages.{AllBetween, ifOk, acceptedHeader, acceptedData, startedEngine, OpenedUnrefused}
@@ -317,7 +317,7 @@ data-accepted-from v e r w (c ∷ calls) b =
 
 -- The reader after an accepted start.
 abbrev pub startedReader : Reader → Direction → (key nonce header : List ℕ) → Reader
-startedReader r d key nonce header = readerOf (load (r .loads) key nonce) header (headerPhase d header) header []
+startedReader r d key nonce header = readerOf (afterLoad (r .loads) key nonce) header (headerPhase d header) header []
 
 start-answered : (k : AeadInitResult) (e : SparkleEngine) (d : Direction) (key nonce header : List ℕ)
     → initBy k e d key nonce header .answer ≡ k
@@ -391,7 +391,7 @@ module _ (v : SparkleVariant) (before : List Call) (d : Direction) (key nonce : 
         released-from v (startedEngine v before d key nonce size initial)
         (startedReader (reader v before) d key nonce initial) start-invariant between b
         ∙ ap (λ (l : List ℕ). l ++ outputs (startedEngine v before d key nonce size initial) between)
-        (released-none (paramsOf v) (load (reader v before .loads) key nonce) initial (headerPhase d initial) initial [] refl)
+        (released-none (paramsOf v) (afterLoad (reader v before .loads) key nonce) initial (headerPhase d initial) initial [] refl)
 
     -- the bytes of the whole list
     whole-outputs : outputs (run v before) (Call.Init d key nonce size initial ∷ (between ++ (Call.Final out ∷ [])))

@@ -231,10 +231,10 @@ abbrev pub openOutcome : Bool → ℕ → Outcome
 openOutcome true n = Outcome.ok n
 openOutcome false n = Outcome.no (6 ∷ [])
 
-abbrev pub endOutcome : AeadResult → (opens right : Bool) → Outcome
-endOutcome (Err x) opens right = outcome (Err x)
-endOutcome (Ok n) true right = openOutcome right n
-endOutcome (Ok n) false right = Outcome.ok n
+abbrev pub endOutcome : AeadResult → (opens tagRight : Bool) → Outcome
+endOutcome (Err x) opens tagRight = outcome (Err x)
+endOutcome (Ok n) true tagRight = openOutcome tagRight n
+endOutcome (Ok n) false tagRight = Outcome.ok n
 
 -- The outcome that document 01's tables give to a call, over what the reader keeps. Of mac nothing is asked here: its
 -- count goes by whether a tag can be read.
@@ -309,10 +309,10 @@ pub record OpenEndExact (v : SparkleVariant) (r : Reader) (n : ℕ) (o : Outcome
 
 -- Whether a tag can be read after a call, from what the reader kept before it. An end that is taken makes it readable,
 -- unless an opening's packet is not verified; a start and a reset drop it; no other call changes it.
-abbrev pub shownByEnd : AeadResult → (opens right before : Bool) → Bool
-shownByEnd (Err x) opens right before = before
-shownByEnd (Ok n) true right before = right
-shownByEnd (Ok n) false right before = true
+abbrev pub shownByEnd : AeadResult → (opens tagRight before : Bool) → Bool
+shownByEnd (Err x) opens tagRight before = before
+shownByEnd (Ok n) true tagRight before = tagRight
+shownByEnd (Ok n) false tagRight before = true
 
 unfoldable pub shownAfter : SparkleVariant → Reader → Bool → Call → Bool
 shownAfter v r before (Call.Init d key nonce size h) = false

@@ -49,11 +49,11 @@ abbrev pub newReader : Reader
 newReader = record { phase = Uninitialized; loads = []; initial = []; header = []; body = [] }
 
 -- How many loads are kept: document 01's last loaded pair; and what is kept after one more.
-abbrev pub remembered : ℕ
-remembered = 1
+abbrev pub loadsKept : ℕ
+loadsKept = 1
 
-abbrev pub load : List Load → (key nonce : List ℕ) → List Load
-load loads key nonce = take remembered (record { key = key; nonce = nonce } ∷ loads)
+abbrev pub afterLoad : List Load → (key nonce : List ℕ) → List Load
+afterLoad loads key nonce = take loadsKept (record { key = key; nonce = nonce } ∷ loads)
 
 -- Key and nonce of the last load; empty where there is none.
 abbrev pub lastKey : List Load → List ℕ
@@ -65,13 +65,13 @@ lastNonce [] = []
 lastNonce (l ∷ loads) = l .nonce
 
 -- Whether a pair equals one of the loads.
-abbrev pub among : List Load → (key nonce : List ℕ) → Bool
-among [] key nonce = false
-among (l ∷ loads) key nonce = same (l .key) key && same (l .nonce) nonce || among loads key nonce
+abbrev pub isAmong : List Load → (key nonce : List ℕ) → Bool
+isAmong [] key nonce = false
+isAmong (l ∷ loads) key nonce = same (l .key) key && same (l .nonce) nonce || isAmong loads key nonce
 
 -- Of a reader: whether a pair equals the last loaded, and the loaded pair.
 abbrev pub repeated : Reader → (key nonce : List ℕ) → Bool
-repeated r key nonce = among (r .loads) key nonce
+repeated r key nonce = isAmong (r .loads) key nonce
 
 abbrev pub loadedKey : Reader → List ℕ
 loadedKey r = lastKey (r .loads)
@@ -127,7 +127,7 @@ readStart StartOk r d key nonce h =
       reader =
           record {
             phase = headerPhase d h;
-            loads = load (r .loads) key nonce;
+            loads = afterLoad (r .loads) key nonce;
             initial = h;
             header = h;
             body = [];

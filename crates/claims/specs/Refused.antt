@@ -76,11 +76,11 @@ Repeats e key nonce =
     (e .pair .loaded ≡ true) × (take (keyOf e) (e .pair .key) ≡ key) × (take (rateOf e) (e .pair .nonce) ≡ nonce)
 
 -- The tag that an opening holds at its end, and the one that its message has under the loaded key.
-abbrev pub heldTag : SparkleEngine → List ℕ
-heldTag e = receivedTag (paramsOf (e .variant)) (e .current)
+abbrev pub receivedTagOf : SparkleEngine → List ℕ
+receivedTagOf e = receivedTag (paramsOf (e .variant)) (e .current)
 
-abbrev pub rightTag : SparkleEngine → List ℕ
-rightTag e = openTag (paramsOf (e .variant)) (currentKey (paramsOf (e .variant)) (e .pair)) (e .current)
+abbrev pub computedTag : SparkleEngine → List ℕ
+computedTag e = openTag (paramsOf (e .variant)) (currentKey (paramsOf (e .variant)) (e .pair)) (e .current)
 
 -- When a call is refused, with which number and values: the lines of document 01's two tables, each with the checks
 -- before it passed.
@@ -101,7 +101,7 @@ pub data Refused (e : SparkleEngine) : Call → List ℕ → Type 0 where
   no-tag : {out : List ℕ} → Active Decrypt (e .current .phase) → engineHeld e < keyOf e
       → Refused e (Call.Final out) (5 ∷ (keyOf e ∷ (engineHeld e ∷ [])))
   tag-differs : {out : List ℕ} → e .current .phase ≡ Data Decrypt → keyOf e ≤ engineHeld e → engineHeld e - keyOf e ≤ length out
-      → (heldTag e ≡ rightTag e → ⊥) → Refused e (Call.Final out) (6 ∷ [])
+      → (receivedTagOf e ≡ computedTag e → ⊥) → Refused e (Call.Final out) (6 ∷ [])
   data-sum : {d : Direction} {input out : List ℕ} → Active d (e .current .phase) → 2 ^ 64 ≤ engineHeld e + length input
       → Refused e (Call.Data input out) (7 ∷ [])
   update-sum : {n : ℕ} → 2 ^ 64 ≤ engineHeld e + n → Refused e (Call.Update n) (7 ∷ [])

@@ -43,8 +43,8 @@ abbrev pub messageLength : Direction → Params → ℕ → ℕ
 messageLength Encrypt p n = n
 messageLength Decrypt p n = n - p .key
 
-abbrev pub stepsOfWhole : Params → Direction → Reader → ℕ
-stepsOfWhole p d r = steps p (length (r .header)) (messageLength d p (length (r .body)))
+abbrev pub messageSteps : Params → Direction → Reader → ℕ
+messageSteps p d r = steps p (length (r .header)) (messageLength d p (length (r .body)))
 
 -- ---- On each line
 
@@ -52,9 +52,9 @@ stepsOfWhole p d r = steps p (length (r .header)) (messageLength d p (length (r 
 -- that led there or of a reset, or it has not changed.
 abbrev pub endSteps : Phase → Params → ℕ → Direction → Reader → ℕ
 endSteps Uninitialized p before d r = before
-endSteps (Init _) p before d r = stepsOfWhole p d r % 2 ^ 64
-endSteps (Aad _) p before d r = stepsOfWhole p d r % 2 ^ 64
-endSteps (Data _) p before d r = stepsOfWhole p d r % 2 ^ 64
+endSteps (Init _) p before d r = messageSteps p d r % 2 ^ 64
+endSteps (Aad _) p before d r = messageSteps p d r % 2 ^ 64
+endSteps (Data _) p before d r = messageSteps p d r % 2 ^ 64
 endSteps (Final _) p before d r = before
 
 abbrev pub finalSteps : Call → Phase → Params → ℕ → Direction → Reader → ℕ

@@ -11,8 +11,8 @@ use tc_aead_cipher::phase::Direction;
 use tc_aead_cipher::variant::SparkleVariant;
 use tc_sparkle_aead::aead_cipher;
 use tc_sparkle_aead::engine;
-use tc_sparkle_aead::message::Mac;
 use tc_sparkle_aead::engine::SparkleEngine;
+use tc_sparkle_aead::message::Mac;
 
 // Ends the old message and starts a new one.
 pub fn init(

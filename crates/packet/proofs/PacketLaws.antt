@@ -20,7 +20,7 @@ use Rattle.tc_aead_cipher.specs.declared.aead_init_error.AeadInitResult.{AeadIn
 use Rattle.tc_sparkle_aead.specs.declared.engine.SparkleEngine.{SparkleEngine}
 use Rattle.tc_sparkle_aead.specs.declared.engine.Done.{Done}
 use Rattle.tc_sparkle_aead.specs.declared.engine.Started.{Started}
-use Rattle.tc_sparkle_aead.specs.Message.{verifies}
+use Rattle.tc_sparkle_aead.specs.Message.{tagMatches}
 use Rattle.tc_sparkle_aead.specs.Engine.{currentKey, newEngine}
 use Rattle.tc_aead_cipher.specs.Variant.{paramsOf, variantOf, isVariant}
 use Rattle.tc_aead_cipher.specs.Checks.{opening, then, room, whole, phaseCheck, updateLen, totalLen, dataCheck, endCheck}
@@ -118,7 +118,7 @@ end-count e out n q =
     by (Err x) w = w
     by (Ok m) w =
         let p = paramsOf (beginData e .variant) in
-        let right = verifies p (currentKey p (beginData e .pair)) (beginData e .current) in
+        let right = tagMatches p (currentKey p (beginData e .pair)) (beginData e .current) in
         ap Ok (ended-count (opening (e .current .phase)) right (beginData e) m n w)
 
 -- ---- the end

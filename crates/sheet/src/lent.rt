@@ -4,8 +4,8 @@ ghost use mathlib.Core.Path.{_≡_};
 ghost use Rattle.tc_sparkle_aead.specs.Calls.{processAadBytes, processBytes, processBytesOut, doFinal, doFinalOut, macOf, stepsNow};
 use entry_calls::aead_cipher;
 use tc_sparkle_aead::engine::Done;
-use tc_sparkle_aead::message::Mac;
 use tc_sparkle_aead::engine::SparkleEngine;
+use tc_sparkle_aead::message::Mac;
 
 pub(crate) fn process_aad_bytes(e: SparkleEngine, input: &[u8]) -> Done
     ensures { λ r. ⌜ r ≡ processAadBytes e (now (input .entry)) ⌝ }

@@ -24,7 +24,7 @@ use Rattle.tc_sparkle_aead.specs.declared.engine.Done.{Done}
 use Rattle.tc_sparkle_aead.specs.declared.engine.SparkleEngine.{SparkleEngine}
 use Rattle.tc_aead_cipher.specs.Variant.{paramsOf}
 use Rattle.tc_aead_cipher.specs.Checks.{opening, keep, heldData, then, within64, room, phaseCheck, totalLen, whole, endCheck}
-use Rattle.tc_sparkle_aead.specs.Message.{noMac, readable, bufferedCount, beginPoint, beginSteps, written, sealEnd, sealOut, verifies, openEndBy, openEnd, openOut}
+use Rattle.tc_sparkle_aead.specs.Message.{noMac, readable, bufferedCount, beginPoint, beginSteps, written, sealEnd, sealOut, tagMatches, openEndBy, openEnd, openOut}
 use Rattle.tc_sparkle_aead.specs.Engine.{currentKey}
 use Rattle.tc_sparkle_aead.specs.Calls.{atPoint, beginData, finalEngine, finish, answered, sealFinal, openFinal, openFinalBy, finalBy, finalOutBy, finalAnswer, doFinal, doFinalOut}
 use Rattle.tc_sparkle_aead.proofs.BeginLaws.{begin-held, begin-ended, begin-parts}
@@ -208,7 +208,7 @@ module _ {e : SparkleEngine} {at : Point} {out : List ℕ} {n : ℕ} {opens : Bo
     final-opened answer told first ef x end ee done ed =
         let r = openOf (beginData e .variant) (beginData e .pair) (beginData e .current) in
         let p = paramsOf (beginData e .variant) in
-        let right = verifies p (currentKey p (beginData e .pair)) (beginData e .current) in
+        let right = tagMatches p (currentKey p (beginData e .pair)) (beginData e .current) in
         rw (t .passed, opened)
         (ed ∙ ended-is answer told first ef x Decrypt end r (ee ∙ parts-are openOf)
         ∙ open-end-by right (beginData e) n r refl)

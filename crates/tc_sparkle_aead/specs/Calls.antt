@@ -21,7 +21,7 @@ use Rattle.tc_sparkle_aead.specs.declared.engine.Done.{Done}
 use Rattle.tc_sparkle_aead.specs.declared.engine.Started.{Started}
 use Rattle.tc_aead_cipher.specs.Variant.{paramsOf}
 use Rattle.tc_aead_cipher.specs.Checks.{opening, aadCheck, dataCheck, endCheck, startCheck}
-use Rattle.tc_sparkle_aead.specs.Message.{noMessage, noMac, startPoint, absorbHeader, headerSteps, withoutHeader, afterHeader, dataFrom, streamOut, written, finalPoint, sealEnd, sealOut, verifies, openEndBy, openOut, resetPoint}
+use Rattle.tc_sparkle_aead.specs.Message.{noMessage, noMac, startPoint, absorbHeader, headerSteps, withoutHeader, afterHeader, dataFrom, streamOut, written, finalPoint, sealEnd, sealOut, tagMatches, openEndBy, openOut, resetPoint}
 use Rattle.tc_sparkle_aead.specs.Engine.{repeats, remember, currentKey, refusedSteps, initSteps, resetSteps}
 
 -- ---- The engine at a point of its message
@@ -179,7 +179,7 @@ openFinalBy false e n =
 unfoldable pub openFinal : SparkleEngine → ℕ → Done
 openFinal e n =
     let p = paramsOf (e .variant) in
-    openFinalBy (verifies p (currentKey p (e .pair)) (e .current)) e n
+    openFinalBy (tagMatches p (currentKey p (e .pair)) (e .current)) e n
 
 abbrev pub finalBy : AeadResult → SparkleEngine → Done
 finalBy (Err x) e = record { answer = Err x; engine = e }

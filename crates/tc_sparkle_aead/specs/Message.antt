@@ -196,8 +196,8 @@ openLast p at = crypt p (stateIn p (at .words)) (openBlock p at)
 unfoldable pub openTag : Params → (key : List ℕ) → Point → List ℕ
 openTag p key at = tagOf p key (lastState p (stateIn p (at .words)) (openBlock p at) (openLast p at))
 
-abbrev pub verifies : Params → (key : List ℕ) → Point → Bool
-verifies p key at = same (receivedTag p at) (openTag p key at)
+abbrev pub tagMatches : Params → (key : List ℕ) → Point → Bool
+tagMatches p key at = same (receivedTag p at) (openTag p key at)
 
 -- The end of an opening: the tag and the steps, and what is written. What a failed tag leaves of the bytes that would have
 -- been written: zeros.
@@ -206,14 +206,14 @@ openEndBy true p key at = record { mac = readable (openTag p key at); steps = la
 openEndBy false p key at = record { mac = noMac; steps = lastSteps p (openBlock p at) }
 
 abbrev pub openEnd : Params → (key : List ℕ) → Point → End
-openEnd p key at = openEndBy (verifies p key at) p key at
+openEnd p key at = openEndBy (tagMatches p key at) p key at
 
 abbrev pub openOutBy : Bool → Params → Point → List ℕ
 openOutBy true p at = openLast p at
 openOutBy false p at = zeros (length (openBlock p at))
 
 abbrev pub openOut : Params → (key : List ℕ) → Point → List ℕ
-openOut p key at = openOutBy (verifies p key at) p at
+openOut p key at = openOutBy (tagMatches p key at) p at
 
 -- ---- After the end, and after a reset
 
