@@ -175,7 +175,7 @@ pub record Opening (v : SparkleVariant) (at : Point) (key : List ℕ) (body : �
   pub bytes : take body plain ≡ openLast (paramsOf v) at
   pub last : length (openLast (paramsOf v) at) ≡ body
   pub mac : tag ≡ inArray 32 (openTag (paramsOf v) (take (paramsOf v .key) key) at)
-  pub run : steps ≡ lastSteps (paramsOf v) (openBlock (paramsOf v) at)
+  pub ran : steps ≡ lastSteps (paramsOf v) (openBlock (paramsOf v) at)
   pub verdict : equal ≡ same (receivedTag (paramsOf v) at) (openTag (paramsOf v) (take (paramsOf v .key) key) at)
 
 module _ (v : SparkleVariant) (at : Point) (key : List ℕ) (hw : length (at .words) ≡ 16) (hb : length (at .buffer) ≡ 64)
@@ -241,7 +241,7 @@ module _ (v : SparkleVariant) (at : Point) (key : List ℕ) (hw : length (at .wo
         bytes = bytes;
         last = last;
         mac = mac;
-        run = es ∙ rw block;
+        ran = es ∙ rw block;
         verdict =
             eq ∙ ap₂ same received-is
             (ap (take size) mac ∙ all-inArray size 32 (openTag (paramsOf v) (take (paramsOf v .key) key) at) (length-mac ∙ sym ez) (omega arith));
@@ -260,7 +260,7 @@ module _ {v : SparkleVariant} {at : Point} {key : List ℕ} {body steps : ℕ} {
       → _≡_ {A = End} (record { mac = record { readable = true; bytes = tag }; steps = steps })
       (openEnd (paramsOf v) (take (paramsOf v .key) key) at)
   unfolding readable
-  opened right = rw (sym (o .verdict) ∙ right, o .mac, o .run) refl
+  opened right = rw (sym (o .verdict) ∙ right, o .mac, o .ran) refl
 
   pub opened-out : (out out₁ : List ℕ) → equal ≡ true → out₁ ≡ paste out 0 plain body
       → out₁ ≡ written (openOut (paramsOf v) (take (paramsOf v .key) key) at) out
@@ -270,7 +270,7 @@ module _ {v : SparkleVariant} {at : Point} {key : List ℕ} {body steps : ℕ} {
   -- it is wrong
   pub unopened : (mac : Mac) → equal ≡ false → mac ≡ noMac
       → _≡_ {A = End} (record { mac = mac; steps = steps }) (openEnd (paramsOf v) (take (paramsOf v .key) key) at)
-  unopened mac wrong em = rw (sym (o .verdict) ∙ wrong, em, o .run) refl
+  unopened mac wrong em = rw (sym (o .verdict) ∙ wrong, em, o .ran) refl
 
   pub unopened-out : (out out₁ bytes : List ℕ) → equal ≡ false → out₁ ≡ paste out 0 bytes body → bytes ≡ zeros 64
       → out₁ ≡ written (openOut (paramsOf v) (take (paramsOf v .key) key) at) out

@@ -76,14 +76,14 @@ stream p at input = buffered p at ++ input
 unfoldable pub blockCount : Params → ℕ → Point → List ℕ → ℕ
 blockCount p keep at input = ready (p .rate) keep (length (stream p at input))
 
--- The point, in a phase, after the blocks that go: `step` is what a block makes of the state.
+-- The point, in a phase, after the blocks that go: `next` is what a block makes of the state.
 unfoldable pub streamed : Params → ℕ → (List ℕ → List ℕ → List ℕ) → Phase → Point → List ℕ → Point
-streamed p keep step phase at input =
+streamed p keep next phase at input =
     record {
       phase = phase;
       words =
           putState p (at .words)
-          (after (p .rate) step (blockCount p keep at input) (stateIn p (at .words)) (stream p at input));
+          (after (p .rate) next (blockCount p keep at input) (stateIn p (at .words)) (stream p at input));
       buffer = inArray 64 (held (p .rate) keep (stream p at input));
       held = length (held (p .rate) keep (stream p at input));
     }
