@@ -37,7 +37,7 @@ use Rattle.claims.proofs.Points.{held-nil, blockPoint}
 use Rattle.claims.proofs.OpeningEnd.{packet-given}
 use Rattle.claims.proofs.Invariant.{pairIn, PhaseInvariant, engineOf, dataPoint, pointIn, then-good, holds-data, state-data}
 use Rattle.claims.proofs.Invariant.{LoadsFit, isLoaded, last-fits, data-given, phase-agrees}
-use Rattle.claims.proofs.InvariantKept.{readerOf, inData, begunSteps, begin-data, sealing-state, sealing-block, sealing-tag}
+use Rattle.claims.proofs.InvariantKept.{readerOf, inData, stepsAtData, begin-data, sealing-state, sealing-block, sealing-tag}
 use Rattle.claims.proofs.InvariantKept.{opening-block, opening-last}
 use Rattle.tc_sparkle_aead.specs.Engine.{currentKey}
 
@@ -229,16 +229,16 @@ module _ (v : SparkleVariant) where
           out (written (dataOut (beginData (engineOf v (readerIn phase header body) mac s)) input) out) k
       message-writes s {d} {phase} t st input out k ok =
           let r = readerIn phase header body in
-          let begun = begunSteps p phase s in
+          let at-data = stepsAtData p phase s in
           let is = begin-data v loads initial f t header body mac s st in
           let e : released p (readerIn (dataPhase phase) header (body ++ input))
           ≡ released p r ++ dataOut (beginData (engineOf v r mac s)) input =
           ap (λ (x : Phase). released p (readerIn x header (body ++ input))) (active-phase t)
-          ∙ data-bytes d begun input
+          ∙ data-bytes d at-data input
           ∙ ap₂ (λ (x : List ℕ) (y : SparkleEngine). x ++ dataOut y input) (sym (released-data t)) (sym is)
           in
           let l : length (dataOut (beginData (engineOf v r mac s)) input) ≡ k =
-          ap (λ (y : SparkleEngine). length (dataOut y input)) is ∙ data-length d begun input
+          ap (λ (y : SparkleEngine). length (dataOut y input)) is ∙ data-length d at-data input
           ∙ ap₂ (λ (x y : ℕ). ready (p .rate) x (y + length input) * p .rate) (sym (active-keep p t)) (sym (buffered-count t st))
           ∙ sym (ok .count)
           in

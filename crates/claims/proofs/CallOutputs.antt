@@ -31,7 +31,7 @@ use Rattle.claims.specs.Reader.{Reader, readerHeld, inPhase, readMessage
 use Rattle.claims.specs.Reader.{lastNonce}
 use Rattle.claims.specs.Messages.{released, Writes, messageOf}
 use Rattle.claims.proofs.Invariant.{Invariant, PhaseInvariant, engineOf, dataPoint, openedMac, LoadsFit, isLoaded}
-use Rattle.claims.proofs.InvariantKept.{readerOf, inData, begunSteps, active-enough, begin-data, active-loaded}
+use Rattle.claims.proofs.InvariantKept.{readerOf, inData, stepsAtData, active-enough, begin-data, active-loaded}
 use Rattle.claims.proofs.InvariantKept.{opening-verified, seal-engine, open-engine, data-answer, final-answer}
 use Rattle.claims.proofs.Accepted.{data-good, end-good, data-passed-active, end-passed-active, EndPassed}
 use Rattle.claims.proofs.Accepted.{released-data, writes, message-writes, seal-bytes, seal-length, open-bytes}
@@ -212,7 +212,7 @@ module _ (v : SparkleVariant) (r : Reader) (mac : Mac) (s : Steps) (f : LoadsFit
     direction = is-open v (r .loads) (r .initial) f (r .header) (r .body) mac t st out n good
 
     begins : beginData (engineOf v r mac s)
-        ≡ inData v (r .loads) (r .initial) d (r .header) (r .body) (begunSteps (paramsOf v) (r .phase) s)
+        ≡ inData v (r .loads) (r .initial) d (r .header) (r .body) (stepsAtData (paramsOf v) (r .phase) s)
     begins = begin-data v (r .loads) (r .initial) f t (r .header) (r .body) mac s st
 
     was-loaded : isLoaded (r .loads) ≡ true
@@ -224,7 +224,7 @@ module _ (v : SparkleVariant) (r : Reader) (mac : Mac) (s : Steps) (f : LoadsFit
   seal-step : Active Encrypt (r .phase) → SealEnd v r out n (step (engineOf v r mac s) (Call.Final out))
   seal-step t =
       subst (SealEnd v r out n) (sym step-is)
-      (sealed-end v (r .loads) (r .initial) (r .header) (r .body) mac (begunSteps (paramsOf v) (r .phase) s) f out n t st
+      (sealed-end v (r .loads) (r .initial) (r .header) (r .body) mac (stepsAtData (paramsOf v) (r .phase) s) f out n t st
       (opening (engineOf v r mac s .current .phase)) (direction t) (beginData (engineOf v r mac s)) (begins t) good)
 
   open-step : Active Decrypt (r .phase)
@@ -232,7 +232,7 @@ module _ (v : SparkleVariant) (r : Reader) (mac : Mac) (s : Steps) (f : LoadsFit
       (step (engineOf v r mac s) (Call.Final out))
   open-step t =
       subst (OpenEnd v r out n (verified (paramsOf v) (loadedKey r) (loadedNonce r) (r .header) (r .body))) (sym step-is)
-      (opened-end v (r .loads) (r .initial) (r .header) (r .body) mac (begunSteps (paramsOf v) (r .phase) s) f out n t st
+      (opened-end v (r .loads) (r .initial) (r .header) (r .body) mac (stepsAtData (paramsOf v) (r .phase) s) f out n t st
       (opening (engineOf v r mac s .current .phase)) (direction t) (beginData (engineOf v r mac s)) (begins t) (enough t) good)
 
   -- the engine afterwards
@@ -242,14 +242,14 @@ module _ (v : SparkleVariant) (r : Reader) (mac : Mac) (s : Steps) (f : LoadsFit
       (readable (tag (paramsOf v) (loadedKey r) (loadedNonce r) (r .header) (r .body)))
       (addSteps (lastSteps (paramsOf v)
       (buffered (paramsOf v) (dataPoint (paramsOf v) Encrypt (loadedKey r) (loadedNonce r) (r .header) (r .body))))
-      (begunSteps (paramsOf v) (r .phase) s))
+      (stepsAtData (paramsOf v) (r .phase) s))
   seal-engine-step t =
       let e = beginData (engineOf v r mac s) in
       ap (λ (x : StepResult). x .engine) step-is
       ∙ ap (λ (b : Bool). cond b (openFinal e n) (sealFinal e n) .engine) (direction t)
       ∙ ap (λ (y : SparkleEngine). sealFinal y n .engine) (begins t)
       ∙ seal-engine v (r .loads) (r .initial) f (was-loaded t) (r .header) (r .body)
-      (begunSteps (paramsOf v) (r .phase) s) n
+      (stepsAtData (paramsOf v) (r .phase) s) n
 
   pub open-engine-step : Active Decrypt (r .phase)
       → step (engineOf v r mac s) (Call.Final out) .engine
@@ -257,14 +257,14 @@ module _ (v : SparkleVariant) (r : Reader) (mac : Mac) (s : Steps) (f : LoadsFit
       (openedMac (paramsOf v) (loadedKey r) (loadedNonce r) (r .header) (r .body))
       (addSteps (lastSteps (paramsOf v)
       (openBlock (paramsOf v) (dataPoint (paramsOf v) Decrypt (loadedKey r) (loadedNonce r) (r .header) (r .body))))
-      (begunSteps (paramsOf v) (r .phase) s))
+      (stepsAtData (paramsOf v) (r .phase) s))
   open-engine-step t =
       let e = beginData (engineOf v r mac s) in
       ap (λ (x : StepResult). x .engine) step-is
       ∙ ap (λ (b : Bool). cond b (openFinal e n) (sealFinal e n) .engine) (direction t)
       ∙ ap (λ (y : SparkleEngine). openFinal y n .engine) (begins t)
       ∙ open-engine v (r .loads) (r .initial) f (was-loaded t) (r .header) (r .body) (enough t)
-      (begunSteps (paramsOf v) (r .phase) s) n
+      (stepsAtData (paramsOf v) (r .phase) s) n
 
 mac-shown : (good : Bool) (t : List ℕ) (e : SparkleEngine) → e .mac ≡ cond good (readable t) noMac → macOf e
     ≡ cond good (readable t) noMac

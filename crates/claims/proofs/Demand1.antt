@@ -202,14 +202,14 @@ not-same u v differs = go (same u v) refl
     go true q = absurd (differs (equal-of-same u v q))
     go false q = refl
 
-begun : (e : SparkleEngine) (d : Direction) → e .current .phase ≡ Data d → beginData e ≡ e
+already-begun : (e : SparkleEngine) (d : Direction) → e .current .phase ≡ Data d → beginData e ≡ e
 unfolding beginData withoutHeader afterHeader
-begun e d q = rw q
+already-begun e d q = rw q
 
 opening-end : (e : SparkleEngine) (n : ℕ) (b : Bool) → e .current .phase ≡ Data Decrypt
     → tagRight e ≡ b → finalBy (Ok n) e ≡ openFinalBy b e n
 unfolding openFinal
-opening-end e n b q h = rw (begun e Decrypt q, h, q)
+opening-end e n b q h = rw (already-begun e Decrypt q, h, q)
 
 -- The engine's comparison says whether a pair repeats.
 module _ (e : SparkleEngine) (key nonce : List ℕ) where
@@ -307,150 +307,150 @@ module _ (e : SparkleEngine) (d : Direction) (n : ℕ) (f : HasDirection d (e .c
   output-count fits = rw (output-fits _ _ _ _ _ f fits)
 
 -- What an outcome tells: a count, or a refusal whose line holds.
-data Told (e : SparkleEngine) (c : Call) : Outcome → Type 0 where
-  count : (n : ℕ) → Told e c (ok n)
-  number : {r : List ℕ} → Refused e c r → Told e c (no r)
+data Answered (e : SparkleEngine) (c : Call) : Outcome → Type 0 where
+  count : (n : ℕ) → Answered e c (ok n)
+  number : {r : List ℕ} → Refused e c r → Answered e c (no r)
 
 module _ (e : SparkleEngine) where
-  told-number : {c : Call} {r : List ℕ} → Refused e c r → Told e c (step e c .outcome)
-  told-number {c} {r} x = rw (refused-comes-back e c r x) (number x)
+  answered-number : {c : Call} {r : List ℕ} → Refused e c r → Answered e c (step e c .outcome)
+  answered-number {c} {r} x = rw (refused-comes-back e c r x) (number x)
 
-  told-count : {c : Call} {n : ℕ} → step e c .outcome ≡ ok n → Told e c (step e c .outcome)
-  told-count {c} {n} q = rw q (count n)
+  answered-count : {c : Call} {n : ℕ} → step e c .outcome ≡ ok n → Answered e c (step e c .outcome)
+  answered-count {c} {n} q = rw q (count n)
 
-  told-start : (d : Direction) (key nonce header : List ℕ) (size : ℕ)
-      → Told e (Call.Init d key nonce size header) (step e (Call.Init d key nonce size header) .outcome)
-  told-start d key nonce header size = by-key (ℕ-discrete (length key) (keyOf e))
+  answered-start : (d : Direction) (key nonce header : List ℕ) (size : ℕ)
+      → Answered e (Call.Init d key nonce size header) (step e (Call.Init d key nonce size header) .outcome)
+  answered-start d key nonce header size = by-key (ℕ-discrete (length key) (keyOf e))
     where
       by-repeat : (d : Direction) → length key ≡ keyOf e → length nonce ≡ rateOf e → size ≡ keyOf e
-          → Told e (Call.Init d key nonce size header) (step e (Call.Init d key nonce size header) .outcome)
+          → Answered e (Call.Init d key nonce size header) (step e (Call.Init d key nonce size header) .outcome)
       by-repeat Encrypt k n s = by-pair (repeats (paramsOf (e .variant)) (e .pair) key nonce) refl
         where
           by-pair : (b : Bool) → repeats (paramsOf (e .variant)) (e .pair) key nonce ≡ b
-              → Told e (Call.Init Encrypt key nonce size header) (step e (Call.Init Encrypt key nonce size header) .outcome)
-          by-pair true q = told-number (nonce-reuse k n s (repeats-true e key nonce q))
-          by-pair false q = told-count (start-fresh e key nonce header size k n s q)
-      by-repeat Decrypt k n s = told-count (start-opening e key nonce header size k n s)
+              → Answered e (Call.Init Encrypt key nonce size header) (step e (Call.Init Encrypt key nonce size header) .outcome)
+          by-pair true q = answered-number (nonce-reuse k n s (repeats-true e key nonce q))
+          by-pair false q = answered-count (start-fresh e key nonce header size k n s q)
+      by-repeat Decrypt k n s = answered-count (start-opening e key nonce header size k n s)
 
       by-size : length key ≡ keyOf e → length nonce ≡ rateOf e → Dec (size ≡ keyOf e)
-          → Told e (Call.Init d key nonce size header) (step e (Call.Init d key nonce size header) .outcome)
-      by-size k n (Dec.no w) = told-number (mac-size k n w)
+          → Answered e (Call.Init d key nonce size header) (step e (Call.Init d key nonce size header) .outcome)
+      by-size k n (Dec.no w) = answered-number (mac-size k n w)
       by-size k n (Dec.yes s) = by-repeat d k n s
 
       by-nonce : length key ≡ keyOf e → Dec (length nonce ≡ rateOf e)
-          → Told e (Call.Init d key nonce size header) (step e (Call.Init d key nonce size header) .outcome)
-      by-nonce k (Dec.no w) = told-number (nonce-length k w)
+          → Answered e (Call.Init d key nonce size header) (step e (Call.Init d key nonce size header) .outcome)
+      by-nonce k (Dec.no w) = answered-number (nonce-length k w)
       by-nonce k (Dec.yes n) = by-size k n (ℕ-discrete size (keyOf e))
 
       by-key : Dec (length key ≡ keyOf e)
-          → Told e (Call.Init d key nonce size header) (step e (Call.Init d key nonce size header) .outcome)
-      by-key (Dec.no w) = told-number (key-length w)
+          → Answered e (Call.Init d key nonce size header) (step e (Call.Init d key nonce size header) .outcome)
+      by-key (Dec.no w) = answered-number (key-length w)
       by-key (Dec.yes k) = by-nonce k (ℕ-discrete (length nonce) (rateOf e))
 
-  told-header : (phase : Phase) (input : List ℕ) → e .current .phase ≡ phase
-      → Told e (Call.Aad input) (step e (Call.Aad input) .outcome)
+  answered-header : (phase : Phase) (input : List ℕ) → e .current .phase ≡ phase
+      → Answered e (Call.Aad input) (step e (Call.Aad input) .outcome)
   unfolding step processAadBytes aadCheck
-  told-header phase [] q = count 0
-  told-header Uninitialized (x ∷ input) q =
-      let some : 0 < length (x ∷ input) = omega arith in told-number (header-not-initialized some q)
-  told-header (Init d) (x ∷ input) q = rw (q, eqb·suc-zero) (count 0)
-  told-header (Aad d) (x ∷ input) q = rw (q, eqb·suc-zero) (count 0)
-  told-header (Data d) (x ∷ input) q =
-      let some : 0 < length (x ∷ input) = omega arith in told-number (header-after-data some q)
-  told-header (Final d) (x ∷ input) q =
-      let some : 0 < length (x ∷ input) = omega arith in told-number (header-finalized some q)
+  answered-header phase [] q = count 0
+  answered-header Uninitialized (x ∷ input) q =
+      let some : 0 < length (x ∷ input) = omega arith in answered-number (header-not-initialized some q)
+  answered-header (Init d) (x ∷ input) q = rw (q, eqb·suc-zero) (count 0)
+  answered-header (Aad d) (x ∷ input) q = rw (q, eqb·suc-zero) (count 0)
+  answered-header (Data d) (x ∷ input) q =
+      let some : 0 < length (x ∷ input) = omega arith in answered-number (header-after-data some q)
+  answered-header (Final d) (x ∷ input) q =
+      let some : 0 < length (x ∷ input) = omega arith in answered-number (header-finalized some q)
 
-  told-taken : (d : Direction) (input out : List ℕ) → Active d (e .current .phase)
-      → Told e (Call.Data input out) (step e (Call.Data input out) .outcome)
-  told-taken d input out t = by-sum (decLt (engineHeld e + length input) (2 ^ 64))
+  answered-taken : (d : Direction) (input out : List ℕ) → Active d (e .current .phase)
+      → Answered e (Call.Data input out) (step e (Call.Data input out) .outcome)
+  answered-taken d input out t = by-sum (decLt (engineHeld e + length input) (2 ^ 64))
     where
       by-room : engineHeld e + length input < 2 ^ 64
           → Dec (length out < dataWrites d (paramsOf (e .variant)) (engineHeld e + length input))
-          → Told e (Call.Data input out) (step e (Call.Data input out) .outcome)
-      by-room fits (Dec.yes short) = told-number (data-room t fits short)
-      by-room fits (Dec.no w) = told-count (data-count e d input out t fits (omega arith))
+          → Answered e (Call.Data input out) (step e (Call.Data input out) .outcome)
+      by-room fits (Dec.yes short) = answered-number (data-room t fits short)
+      by-room fits (Dec.no w) = answered-count (data-count e d input out t fits (omega arith))
 
       by-sum : Dec (engineHeld e + length input < 2 ^ 64)
-          → Told e (Call.Data input out) (step e (Call.Data input out) .outcome)
+          → Answered e (Call.Data input out) (step e (Call.Data input out) .outcome)
       by-sum (Dec.yes fits) = by-room fits (decLt (length out) (dataWrites d (paramsOf (e .variant)) (engineHeld e + length input)))
-      by-sum (Dec.no w) = let over : 2 ^ 64 ≤ engineHeld e + length input = omega arith in told-number (data-sum t over)
+      by-sum (Dec.no w) = let over : 2 ^ 64 ≤ engineHeld e + length input = omega arith in answered-number (data-sum t over)
 
-  told-message : (phase : Phase) (input out : List ℕ) → e .current .phase ≡ phase
-      → Told e (Call.Data input out) (step e (Call.Data input out) .outcome)
-  told-message Uninitialized input out q = told-number (data-not-initialized q)
-  told-message (Init d) input out q = told-taken d input out (rw q in-init)
-  told-message (Aad d) input out q = told-taken d input out (rw q in-aad)
-  told-message (Data d) input out q = told-taken d input out (rw q in-data)
-  told-message (Final d) input out q = told-number (data-finalized q)
+  answered-message : (phase : Phase) (input out : List ℕ) → e .current .phase ≡ phase
+      → Answered e (Call.Data input out) (step e (Call.Data input out) .outcome)
+  answered-message Uninitialized input out q = answered-number (data-not-initialized q)
+  answered-message (Init d) input out q = answered-taken d input out (rw q in-init)
+  answered-message (Aad d) input out q = answered-taken d input out (rw q in-aad)
+  answered-message (Data d) input out q = answered-taken d input out (rw q in-data)
+  answered-message (Final d) input out q = answered-number (data-finalized q)
 
-  told-ended : (d : Direction) (out : List ℕ) → Active d (e .current .phase)
-      → Told e (Call.Final out) (step e (Call.Final out) .outcome)
-  told-ended d out t = by-room d t (decLt (length out) (endWrites d (paramsOf (e .variant)) (engineHeld e)))
+  answered-ended : (d : Direction) (out : List ℕ) → Active d (e .current .phase)
+      → Answered e (Call.Final out) (step e (Call.Final out) .outcome)
+  answered-ended d out t = by-room d t (decLt (length out) (endWrites d (paramsOf (e .variant)) (engineHeld e)))
     where
       by-tag : Active Decrypt (e .current .phase) → keyOf e ≤ engineHeld e → engineHeld e - keyOf e ≤ length out
-          → Told e (Call.Final out) (step e (Call.Final out) .outcome)
+          → Answered e (Call.Final out) (step e (Call.Final out) .outcome)
       by-tag t whole enough = go (tagRight e) refl
         where
           q : e .current .phase ≡ Data Decrypt
           q = whole-in-data _ _ _ (sizes (e .variant) .key-positive) t whole
 
-          go : (b : Bool) → tagRight e ≡ b → Told e (Call.Final out) (step e (Call.Final out) .outcome)
-          go true equal = told-count (open-count e out q whole enough (equal-of-same _ _ equal))
+          go : (b : Bool) → tagRight e ≡ b → Answered e (Call.Final out) (step e (Call.Final out) .outcome)
+          go true equal = answered-count (open-count e out q whole enough (equal-of-same _ _ equal))
           go false differs =
               let wrong : receivedTagOf e ≡ computedTag e → ⊥ =
               (λ equal. let w = same-of-equal _ _ equal in let z : _≡_ {A = ℕ} 0 1 = cc in omega arith)
-              in told-number (tag-differs q whole enough wrong)
+              in answered-number (tag-differs q whole enough wrong)
 
       by-length : Active Decrypt (e .current .phase) → engineHeld e - keyOf e ≤ length out → Dec (engineHeld e < keyOf e)
-          → Told e (Call.Final out) (step e (Call.Final out) .outcome)
-      by-length t enough (Dec.yes short) = told-number (no-tag t short)
+          → Answered e (Call.Final out) (step e (Call.Final out) .outcome)
+      by-length t enough (Dec.yes short) = answered-number (no-tag t short)
       by-length t enough (Dec.no w) = by-tag t (omega arith) enough
 
       by-room : (d : Direction) → Active d (e .current .phase)
           → Dec (length out < endWrites d (paramsOf (e .variant)) (engineHeld e))
-          → Told e (Call.Final out) (step e (Call.Final out) .outcome)
-      by-room d t (Dec.yes short) = told-number (end-room t short)
-      by-room Encrypt t (Dec.no w) = told-count (seal-count e out t (omega arith))
+          → Answered e (Call.Final out) (step e (Call.Final out) .outcome)
+      by-room d t (Dec.yes short) = answered-number (end-room t short)
+      by-room Encrypt t (Dec.no w) = answered-count (seal-count e out t (omega arith))
       by-room Decrypt t (Dec.no w) = by-length t (omega arith) (decLt (engineHeld e) (keyOf e))
 
-  told-end : (phase : Phase) (out : List ℕ) → e .current .phase ≡ phase
-      → Told e (Call.Final out) (step e (Call.Final out) .outcome)
-  told-end Uninitialized out q = told-number (end-not-initialized q)
-  told-end (Init d) out q = told-ended d out (rw q in-init)
-  told-end (Aad d) out q = told-ended d out (rw q in-aad)
-  told-end (Data d) out q = told-ended d out (rw q in-data)
-  told-end (Final d) out q = told-number (end-finalized q)
+  answered-end : (phase : Phase) (out : List ℕ) → e .current .phase ≡ phase
+      → Answered e (Call.Final out) (step e (Call.Final out) .outcome)
+  answered-end Uninitialized out q = answered-number (end-not-initialized q)
+  answered-end (Init d) out q = answered-ended d out (rw q in-init)
+  answered-end (Aad d) out q = answered-ended d out (rw q in-aad)
+  answered-end (Data d) out q = answered-ended d out (rw q in-data)
+  answered-end (Final d) out q = answered-number (end-finalized q)
 
-  told-update : (n : ℕ) → Dec (engineHeld e + n < 2 ^ 64) → Told e (Call.Update n) (step e (Call.Update n) .outcome)
-  told-update n (Dec.yes fits) =
-      let f = has-direction (e .current .phase) in told-count (update-count e (f .0) n (f .1) fits)
-  told-update n (Dec.no w) = let over : 2 ^ 64 ≤ engineHeld e + n = omega arith in told-number (update-sum over)
+  answered-update : (n : ℕ) → Dec (engineHeld e + n < 2 ^ 64) → Answered e (Call.Update n) (step e (Call.Update n) .outcome)
+  answered-update n (Dec.yes fits) =
+      let f = has-direction (e .current .phase) in answered-count (update-count e (f .0) n (f .1) fits)
+  answered-update n (Dec.no w) = let over : 2 ^ 64 ≤ engineHeld e + n = omega arith in answered-number (update-sum over)
 
-  told-output : (n : ℕ) (d : Direction) → HasDirection d (e .current .phase)
+  answered-output : (n : ℕ) (d : Direction) → HasDirection d (e .current .phase)
       → Dec (outputSum d (paramsOf (e .variant)) (engineHeld e + n) < 2 ^ 64)
-      → Told e (Call.Output n) (step e (Call.Output n) .outcome)
-  told-output n d f (Dec.yes fits) = told-count (output-count e d n f fits)
-  told-output n d f (Dec.no w) =
-      let over : 2 ^ 64 ≤ outputSum d (paramsOf (e .variant)) (engineHeld e + n) = omega arith in told-number (output-sum f over)
+      → Answered e (Call.Output n) (step e (Call.Output n) .outcome)
+  answered-output n d f (Dec.yes fits) = answered-count (output-count e d n f fits)
+  answered-output n d f (Dec.no w) =
+      let over : 2 ^ 64 ≤ outputSum d (paramsOf (e .variant)) (engineHeld e + n) = omega arith in answered-number (output-sum f over)
 
-  told : (c : Call) → Told e c (step e c .outcome)
+  answered : (c : Call) → Answered e c (step e c .outcome)
   unfolding step
-  told (Call.Init d key nonce size header) = told-start d key nonce header size
-  told (Call.Aad input) = told-header (e .current .phase) input refl
-  told (Call.Data input out) = told-message (e .current .phase) input out refl
-  told (Call.Final out) = told-end (e .current .phase) out refl
-  told Call.Reset = count 0
-  told Call.Mac = count _
-  told (Call.Update n) = told-update n (decLt (engineHeld e + n) (2 ^ 64))
-  told (Call.Output n) =
+  answered (Call.Init d key nonce size header) = answered-start d key nonce header size
+  answered (Call.Aad input) = answered-header (e .current .phase) input refl
+  answered (Call.Data input out) = answered-message (e .current .phase) input out refl
+  answered (Call.Final out) = answered-end (e .current .phase) out refl
+  answered Call.Reset = count 0
+  answered Call.Mac = count _
+  answered (Call.Update n) = answered-update n (decLt (engineHeld e + n) (2 ^ 64))
+  answered (Call.Output n) =
       let f = has-direction (e .current .phase) in
-      told-output n (f .0) (f .1) (decLt (outputSum (f .0) (paramsOf (e .variant)) (engineHeld e + n)) (2 ^ 64))
+      answered-output n (f .0) (f .1) (decLt (outputSum (f .0) (paramsOf (e .variant)) (engineHeld e + n)) (2 ^ 64))
 
   -- And it comes back nowhere else.
   pub comes-back-refused : (c : Call) (r : List ℕ) → step e c .outcome ≡ no r → Refused e c r
-  comes-back-refused c r q = go (step e c .outcome) (told c) q
+  comes-back-refused c r q = go (step e c .outcome) (answered c) q
     where
-      go : (o : Outcome) → Told e c o → o ≡ no r → Refused e c r
+      go : (o : Outcome) → Answered e c o → o ≡ no r → Refused e c r
       go o (count n) q = absurd (let z : _≡_ {A = ℕ} 0 1 = cc in omega arith)
       go o (number {r = l} t) q = subst (Refused e c) (let z : l ≡ r = cc in z) t
 
@@ -581,7 +581,7 @@ module _ (e : SparkleEngine) where
 
 opening-end-out : (e : SparkleEngine) (n : ℕ) (out : List ℕ) (b : Bool) → e .current .phase ≡ Data Decrypt
     → tagRight e ≡ b → finalOutBy (Ok n) e out ≡ written (openOutBy b (paramsOf (e .variant)) (e .current)) out
-opening-end-out e n out b q h = rw (begun e Decrypt q, h, q)
+opening-end-out e n out b q h = rw (already-begun e Decrypt q, h, q)
 
 module _ (e : SparkleEngine) (array : length (e .current .buffer) ≡ 64) (q : e .current .phase ≡ Data Decrypt) where
   length-held : length (buffered (paramsOf (e .variant)) (e .current)) ≡ engineHeld e

@@ -145,8 +145,8 @@ invariant-new v =
 module _ (p : Params) (h : Sizes p) (m : Small p) where
   -- the header
   module _ (key nonce : List ℕ) where
-    begun : length (initialise p key nonce) ≡ stateLength p
-    begun = length-initialise p h key nonce
+    start-length : length (initialise p key nonce) ≡ stateLength p
+    start-length = length-initialise p h key nonce
 
     absorbed : (s b : List ℕ) → length s ≡ stateLength p → length (absorbBlock p s b) ≡ stateLength p
     absorbed s b hs = length-absorbBlock p h s b
@@ -172,7 +172,7 @@ module _ (p : Params) (h : Sizes p) (m : Small p) where
           ≡ headPoint p (Aad d) key nonce (header ++ (x ∷ input))
       unfolding absorbHeader headPoint
       head-point =
-          streamed-point p h m 0 (absorbBlock p) absorbed phase (initialise p key nonce) header begun holds (x ∷ input)
+          streamed-point p h m 0 (absorbBlock p) absorbed phase (initialise p key nonce) header start-length holds (x ∷ input)
           (Aad d)
 
       -- the blocks that go
@@ -181,7 +181,7 @@ module _ (p : Params) (h : Sizes p) (m : Small p) where
       unfolding headerSteps headPoint
       head-runs =
           ap (λ (n : ℕ). n * p .slim)
-          (blockCount-point p h m 0 (absorbBlock p) absorbed phase (initialise p key nonce) header begun holds (x ∷ input))
+          (blockCount-point p h m 0 (absorbBlock p) absorbed phase (initialise p key nonce) header start-length holds (x ∷ input))
 
     -- the header of a start
     pub started-point : (d : Direction) (header : List ℕ)
@@ -212,9 +212,9 @@ module _ (p : Params) (h : Sizes p) (m : Small p) where
     begin-words d (x ∷ header) some =
         let a : List ℕ = x ∷ header in
         ap₂ (λ (s b : List ℕ). putState p (headPoint p (Aad d) key nonce a .words) (mixLast p 0 s b))
-        (state-point p h m 0 (absorbBlock p) absorbed (Aad d) (initialise p key nonce) a begun (holds-aad d a) [])
+        (state-point p h m 0 (absorbBlock p) absorbed (Aad d) (initialise p key nonce) a start-length (holds-aad d a) [])
         (holds-aad d a)
-        ∙ put-point p h m 0 (absorbBlock p) absorbed (Aad d) (initialise p key nonce) a begun (holds-aad d a) []
+        ∙ put-point p h m 0 (absorbBlock p) absorbed (Aad d) (initialise p key nonce) a start-length (holds-aad d a) []
         _ (length-mixLast p h 0 _ _)
 
     pub begin-point-aad : (d : Direction) (header : List ℕ) → 0 < length header

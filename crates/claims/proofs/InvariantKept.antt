@@ -61,12 +61,12 @@ abbrev pub inData : SparkleVariant → List Load → (initial : List ℕ) → Di
 inData v loads initial d header body s = engineOf v (readerOf loads initial (Data d) header body) noMac s
 
 -- the steps when the data has begun
-abbrev pub begunSteps : Params → Phase → Steps → Steps
-begunSteps p Uninitialized s = s
-begunSteps p (Init d) s = addSteps 0 s
-begunSteps p (Aad d) s = addSteps (p .big) s
-begunSteps p (Data d) s = s
-begunSteps p (Final d) s = s
+abbrev pub stepsAtData : Params → Phase → Steps → Steps
+stepsAtData p Uninitialized s = s
+stepsAtData p (Init d) s = addSteps 0 s
+stepsAtData p (Aad d) s = addSteps (p .big) s
+stepsAtData p (Data d) s = s
+stepsAtData p (Final d) s = s
 
 module _ (v : SparkleVariant) where
   abbrev p : Params
@@ -167,7 +167,7 @@ module _ (v : SparkleVariant) where
       -- a phase that takes data, in a direction
       pub begin-data : {phase : Phase} {d : Direction} → Active d phase → (header body : List ℕ) (mac : Mac) (s : Steps)
           → PhaseInvariant p phase loads header body mac
-          → beginData (engineOf v (readerIn phase header body) mac s) ≡ inData v loads initial d header body (begunSteps p phase s)
+          → beginData (engineOf v (readerIn phase header body) mac s) ≡ inData v loads initial d header body (stepsAtData p phase s)
       unfolding beginData dataPoint blockPoint withoutHeader afterHeader
       begin-data {d = d} in-init header body mac s st =
           (λ i. beginData (engineOf v (readerIn (Init d) (st .2 i) (st .3 i)) (st .1 i) s))

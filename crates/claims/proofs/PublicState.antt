@@ -318,13 +318,13 @@ unnoted (InvalidMacSize n) d b other = refl
 unnoted NonceReuse d b other = absurd (other refl)
 
 -- a sealing past the other checks tells by its verdict, and by its outcome, whether its pair repeats
-told-by-verdict : (b : Bool) → yes (startNote (cond b (StartErr NonceReuse) StartOk) Encrypt b) ≡ b
-told-by-verdict true = refl
-told-by-verdict false = refl
+yes-by-verdict : (b : Bool) → yes (startNote (cond b (StartErr NonceReuse) StartOk) Encrypt b) ≡ b
+yes-by-verdict true = refl
+yes-by-verdict false = refl
 
-told-by-outcome : (b : Bool) → isReuse (startOutcome (cond b (StartErr NonceReuse) StartOk)) ≡ b
-told-by-outcome true = refl
-told-by-outcome false = refl
+yes-by-outcome : (b : Bool) → isReuse (startOutcome (cond b (StartErr NonceReuse) StartOk)) ≡ b
+yes-by-outcome true = refl
+yes-by-outcome false = refl
 
 -- a start's check needs of the pair only what its verdict tells, and its outcome tells the verdict
 module _ (v : SparkleVariant) (key nonce size : ℕ) where
@@ -335,7 +335,7 @@ module _ (v : SparkleVariant) (key nonce size : ℕ) where
       → check d b ≡ check d (yes (startNote (check d b) d b))
   verdict-by (refused-before x other is) b = is b ∙ sym (is _)
   verdict-by (opens-always is) b = is b ∙ sym (is _)
-  verdict-by (seals-by-pair is) b = ap (check Encrypt) (sym (rw (is b) (told-by-verdict b)))
+  verdict-by (seals-by-pair is) b = ap (check Encrypt) (sym (rw (is b) (yes-by-verdict b)))
 
   judged-by : {d : Direction} → StartCase v key nonce size d → (b : Bool)
       → startNote (check d b) d b
@@ -343,7 +343,7 @@ module _ (v : SparkleVariant) (key nonce size : ℕ) where
   judged-by {d} (refused-before x other is) b = rw (is b, is, unnoted x d b other, unnoted x d _ other)
   judged-by (opens-always is) b = rw (is b, is)
   judged-by (seals-by-pair is) b =
-      ap (λ (c : Bool). startNote (check Encrypt c) Encrypt c) (sym (rw (is b) (told-by-outcome b)))
+      ap (λ (c : Bool). startNote (check Encrypt c) Encrypt c) (sym (rw (is b) (yes-by-outcome b)))
 
   pub start-verdict : (d : Direction) (b : Bool) → check d b ≡ check d (yes (startNote (check d b) d b))
   start-verdict d b = verdict-by (startCheck-case v key nonce size d) b

@@ -41,7 +41,7 @@ use Rattle.claims.specs.Messages.{Keeps}
 use Rattle.claims.proofs.Points.{blockPoint, ready-zero}
 use Rattle.claims.proofs.Invariant.{Invariant, PhaseInvariant, LoadsFit, engineOf, headPoint, dataPoint, holds-init}
 use Rattle.claims.proofs.Invariant.{holds-aad, holds-data, head-runs, data-blocks, isLoaded, pointHeld}
-use Rattle.claims.proofs.InvariantKept.{readerOf, begunSteps, begin-data, data-in, aad-some, header-answer, data-answer}
+use Rattle.claims.proofs.InvariantKept.{readerOf, stepsAtData, begin-data, data-in, aad-some, header-answer, data-answer}
 use Rattle.claims.proofs.InvariantKept.{final-answer, active-loaded, active-enough}
 use Rattle.claims.proofs.Accepted.{data-passed-active, end-passed-active, open-length}
 use Rattle.claims.proofs.CallOutputs.{seal-engine-step, open-engine-step}
@@ -145,14 +145,14 @@ module _ (p : Params) (h : Sizes p) where
 
   module _ (loads : List Load) (header body : List ℕ) (mac : Mac) where
     -- where the data begins
-    begun-more : {d : Direction} {phase : Phase} → Active d phase → PhaseInvariant p phase loads header body mac
+    begin-more : {d : Direction} {phase : Phase} → Active d phase → PhaseInvariant p phase loads header body mac
         → soFar p phase header body + beginRan p phase ≡ soFar p (Data d) header body
     unfolding stepsBefore leading
-    begun-more {d = d} in-init st =
+    begin-more {d = d} in-init st =
         rw (st .2, st .3, ready-zero (p .rate) 0, ready-zero (p .rate) (keep p (Data d)), steps-none p) (omega arith)
-    begun-more {d = d} in-aad st =
+    begin-more {d = d} in-aad st =
         rw (st .3, ready-zero (p .rate) (keep p (Data d)), steps-some p (length header) (st .2)) (unfold leading in omega arith)
-    begun-more in-data st = omega arith
+    begin-more in-data st = omega arith
 
     data-more : (d : Direction) (input : List ℕ)
         → soFar p (Data d) header (body ++ input)
@@ -180,20 +180,20 @@ module _ (p : Params) (h : Sizes p) where
         → (initial input : List ℕ) (k : ℕ)
         → ranSoFar p (readMessage (Ok k) (readerOf loads initial phase header body) input .reader)
         ≡ soFar p phase header body + messageRan (Ok k) p (readerOf loads initial phase header body) (length input)
-    message-grows {d = d} in-init st initial input k = omega (arith, begun-more {d = d} in-init st, data-more d input)
-    message-grows {d = d} in-aad st initial input k = omega (arith, begun-more {d = d} in-aad st, data-more d input)
-    message-grows {d = d} in-data st initial input k = omega (arith, begun-more {d = d} in-data st, data-more d input)
+    message-grows {d = d} in-init st initial input k = omega (arith, begin-more {d = d} in-init st, data-more d input)
+    message-grows {d = d} in-aad st initial input k = omega (arith, begin-more {d = d} in-aad st, data-more d input)
+    message-grows {d = d} in-data st initial input k = omega (arith, begin-more {d = d} in-data st, data-more d input)
 
     end-grows : {d : Direction} {phase : Phase} → Active d phase → PhaseInvariant p phase loads header body mac
         → (initial : List ℕ) (k : ℕ)
         → ranSoFar p (readEnd (Ok k) p (readerOf loads initial phase header body) .reader)
         ≡ soFar p phase header body + endRan (Ok k) p (readerOf loads initial phase header body)
-    end-grows {d = Encrypt} in-init st initial k = omega (arith, begun-more {d = Encrypt} in-init st, end-more Encrypt)
-    end-grows {d = Decrypt} in-init st initial k = omega (arith, begun-more {d = Decrypt} in-init st, end-more Decrypt)
-    end-grows {d = Encrypt} in-aad st initial k = omega (arith, begun-more {d = Encrypt} in-aad st, end-more Encrypt)
-    end-grows {d = Decrypt} in-aad st initial k = omega (arith, begun-more {d = Decrypt} in-aad st, end-more Decrypt)
-    end-grows {d = Encrypt} in-data st initial k = omega (arith, begun-more {d = Encrypt} in-data st, end-more Encrypt)
-    end-grows {d = Decrypt} in-data st initial k = omega (arith, begun-more {d = Decrypt} in-data st, end-more Decrypt)
+    end-grows {d = Encrypt} in-init st initial k = omega (arith, begin-more {d = Encrypt} in-init st, end-more Encrypt)
+    end-grows {d = Decrypt} in-init st initial k = omega (arith, begin-more {d = Decrypt} in-init st, end-more Decrypt)
+    end-grows {d = Encrypt} in-aad st initial k = omega (arith, begin-more {d = Encrypt} in-aad st, end-more Encrypt)
+    end-grows {d = Decrypt} in-aad st initial k = omega (arith, begin-more {d = Decrypt} in-aad st, end-more Decrypt)
+    end-grows {d = Encrypt} in-data st initial k = omega (arith, begin-more {d = Encrypt} in-data st, end-more Encrypt)
+    end-grows {d = Decrypt} in-data st initial k = omega (arith, begin-more {d = Decrypt} in-data st, end-more Decrypt)
 
   -- a header call
   header-grows : (phase : Phase) (loads : List Load) (initial header body : List ℕ) (x : ℕ) (input : List ℕ)
@@ -257,11 +257,11 @@ add-both a b s =
     mod-add-mod (s .current + a) (2 ^ 64) b ∙ ap (λ (n : ℕ). n % 2 ^ 64) (omega arith) in
     λ i. record { current = e i; initial = s .initial }
 
-begun-adds : (p : Params) {d : Direction} {phase : Phase} → Active d phase → (n : ℕ) (s : Steps)
-    → addSteps n (begunSteps p phase s) ≡ addSteps (beginRan p phase + n) s
-begun-adds p in-init n s = add-both 0 n s
-begun-adds p in-aad n s = add-both (p .big) n s
-begun-adds p in-data n s = ap (λ (k : ℕ). addSteps k s) (sym (zero-add n))
+begin-adds : (p : Params) {d : Direction} {phase : Phase} → Active d phase → (n : ℕ) (s : Steps)
+    → addSteps n (stepsAtData p phase s) ≡ addSteps (beginRan p phase + n) s
+begin-adds p in-init n s = add-both 0 n s
+begin-adds p in-aad n s = add-both (p .big) n s
+begin-adds p in-data n s = ap (λ (k : ℕ). addSteps k s) (sym (zero-add n))
 
 module _ (v : SparkleVariant) (loads : List Load) (initial header body : List ℕ) (mac : Mac) (s : Steps)
     (below : s .current < 2 ^ 64) where
@@ -311,13 +311,13 @@ module _ (v : SparkleVariant) (loads : List Load) (initial header body : List �
       ≡ addSteps (beginRan p phase
       + ready (p .rate) (keep p (Data d)) (pointHeld p body (Data d) + length input) * p .slim) s
   message-runs f {d} {phase} t st input k =
-      let begun = begunSteps p phase s in
+      let at-data = stepsAtData p phase s in
       ap (λ (e : SparkleEngine). dataIn e input .steps) (begin-data v loads initial f t header body mac s st)
-      ∙ ap (λ (e : SparkleEngine). e .steps) (data-in v loads initial f d begun header body input)
-      ∙ ap (λ (n : ℕ). addSteps n begun)
+      ∙ ap (λ (e : SparkleEngine). e .steps) (data-in v loads initial f d at-data header body input)
+      ∙ ap (λ (n : ℕ). addSteps n at-data)
       (ap (λ (n : ℕ). n * p .slim) (data-blocks p (sizes v) (small v) d (lastKey loads) (lastNonce loads) header body input)
       ∙ data-held d input)
-      ∙ begun-adds p t _ s
+      ∙ begin-adds p t _ s
 
   message-ran : {d : Direction} {phase : Phase} → Active d phase → (n k : ℕ)
       → messageRan (Ok k) p (readerOf loads initial phase header body) n
@@ -381,17 +381,17 @@ module _ (v : SparkleVariant) (r : Reader) (mac : Mac) (s : Steps) (f : LoadsFit
           → finalBy (Ok n) (engineOf v r mac s) .engine .steps ≡ addSteps (endRan (Ok n) (paramsOf v) r) s
       by Encrypt t =
           ap (λ (e : SparkleEngine). e .steps) (is ∙ seal-engine-step v r mac s f st out n q t)
-          ∙ ap (λ (j : ℕ). addSteps j (begunSteps (paramsOf v) (r .phase) s))
+          ∙ ap (λ (j : ℕ). addSteps j (stepsAtData (paramsOf v) (r .phase) s))
           (seal-runs v (r .loads) (r .initial) (r .header) (r .body) mac s below)
-          ∙ begun-adds (paramsOf v) t _ s
+          ∙ begin-adds (paramsOf v) t _ s
           ∙ ap (λ (j : ℕ). addSteps j s) (sym (end-ran v (r .loads) (r .initial) (r .header) (r .body) mac s below t n))
       by Decrypt t =
           ap (λ (e : SparkleEngine). e .steps) (is ∙ open-engine-step v r mac s f st out n q t)
-          ∙ ap (λ (j : ℕ). addSteps j (begunSteps (paramsOf v) (r .phase) s))
+          ∙ ap (λ (j : ℕ). addSteps j (stepsAtData (paramsOf v) (r .phase) s))
           (open-runs v (r .loads) (r .initial) (r .header) (r .body) mac s below f
           (active-loaded v (r .loads) (r .initial) f t (r .header) (r .body) mac st)
           (active-enough (paramsOf v) (sizes v) t (r .body) (length out) n q))
-          ∙ begun-adds (paramsOf v) t _ s
+          ∙ begin-adds (paramsOf v) t _ s
           ∙ ap (λ (j : ℕ). addSteps j s) (sym (end-ran v (r .loads) (r .initial) (r .header) (r .body) mac s below t n))
 
   call-adds : (c : Call) → Keeps c → step (engineOf v r mac s) c .engine .steps ≡ addSteps (ran v r c) s

@@ -94,9 +94,9 @@ pub answer-whole : (e : SparkleEngine) (c : Call) (r : Reply) (after : SparkleEn
     → x ≡ answerHead r (macOf after .readable) (stepsNow after) (shownCount c) ++ y → y ≡ shown e c ++ z
     → x ≡ answerOf e c ++ z
 unfolding answerOf line
-answer-whole e c r after x y z reply engine told behind =
+answer-whole e c r after x y z reply engine written behind =
     let l = step e c in
-    told ∙ rw (reply, engine, behind)
+    written ∙ rw (reply, engine, behind)
     (sym (append-assoc (answerHead (replyOf (l .outcome)) (macOf (l .engine) .readable) (stepsNow (l .engine)) (shownCount c)) (shown e c) z))
 
 -- What stands behind the head once a run was written there.

@@ -118,7 +118,7 @@ pub record Walking (W : Ran) (list out₀ out : List ℕ) (e : SparkleEngine) (a
   pub within : at ≤ length list
   pub room : used ≤ length out₀
   pub size : length out ≡ length out₀
-  pub told : W ≡ answered (take used out) (runCalls fuel (drop at list) e (length out₀ - used))
+  pub run-is : W ≡ answered (take used out) (runCalls fuel (drop at list) e (length out₀ - used))
   pub rest : drop used out ≡ drop used out₀
 
 pub walk-start : (list out : List ℕ) (e : SparkleEngine) → 1 ≤ length list
@@ -132,7 +132,7 @@ walk-start list out e h =
       within = h;
       room = omega arith;
       size = refl;
-      told = ap (runCalls (length list) (drop 1 list) e) (sym n);
+      run-is = ap (runCalls (length list) (drop 1 list) e) (sym n);
       rest = refl;
     }
 
@@ -144,7 +144,7 @@ module _ (W : Ran) (list out₀ out : List ℕ) (e : SparkleEngine) (at used : �
   unfolding answered stopped written
   stop code s =
       let t : W ≡ record { code = code; left = length (drop at list); answers = take used out ++ [] } =
-      w .told ∙ ap (answered (take used out)) s in
+      w .run-is ∙ ap (answered (take used out)) s in
       let n : at ≡ length list - length (drop at list) = simp length-drop (omega (arith, w .within)) in
       let u : length (take used out) ≡ used = length-take-le used out (omega (arith, w .size, w .room)) in
       let whole : out ≡ take used out ++ drop used out₀ =
@@ -232,8 +232,8 @@ module _ (W : Ran) (list out₀ out : List ℕ) (e : SparkleEngine) (at used : �
 
           by-fuel : (k : ℕ) → length list - at ≤ k → W ≡ answered (take used out) (runCalls k (drop at list) e (length out₀ - used))
               → Walking W list out₀ (take used out ++ part) after (at + callLength h) (used + (34 + shownLength h))
-          by-fuel zero enough told = absurd (omega arith)
-          by-fuel (suc k) enough told =
+          by-fuel zero enough run-is = absurd (omega arith)
+          by-fuel (suc k) enough run-is =
               let called : callLength h ≤ length list - at = simp length-drop at (found .2) in
               record {
                 fuel = k;
@@ -241,8 +241,8 @@ module _ (W : Ran) (list out₀ out : List ℕ) (e : SparkleEngine) (at used : �
                 within = omega arith;
                 room = omega (arith, fit, w .room);
                 size = length-append (take used out) part ∙ omega (arith, front, same, behind, w .room);
-                told =
-                    told
+                run-is =
+                    run-is
                     ∙ ap (answered (take used out)) (unfolded k)
                     ∙ answered-twice (take used out) (answerOf e next) (runCalls k (drop (at + callLength h) list) after (length out₀ - (used + (34 + shownLength h))))
                     ∙ ap (λ (l : List ℕ). answered l (runCalls k (drop (at + callLength h) list) after (length out₀ - (used + (34 + shownLength h)))))
@@ -258,7 +258,7 @@ module _ (W : Ran) (list out₀ out : List ℕ) (e : SparkleEngine) (at used : �
               call-some = head-long h
 
           pub walk-turn : Walking W list out₀ (take used out ++ part) after (at + callLength h) (used + (34 + shownLength h))
-          walk-turn = by-fuel (w .fuel) (w .enough) (w .told)
+          walk-turn = by-fuel (w .fuel) (w .enough) (w .run-is)
 
       -- as the code has it: parts that are lent from a place on, and a count
       module _

@@ -134,41 +134,41 @@ module _ (v : SparkleVariant) (key nonce size : ℕ) where
 module _ (p : Params) (phase : Phase) (held available : ℕ) (first : AeadResult) (ef : first ≡ phaseCheck phase) where
   pub endCheck-refused : (x : AeadError) → first ≡ Err x → first ≡ endCheck p phase held available
   unfolding endCheck
-  endCheck-refused x told =
-      told
+  endCheck-refused x answered =
+      answered
       ∙ ap (λ (k : AeadResult). then k (λ _. then (then (totalLen p phase held 0) (room available)) (whole p phase held)))
-      (sym told ∙ ef)
+      (sym answered ∙ ef)
 
   module _ (m : ℕ) (passed : first ≡ Ok m) (sized : AeadResult) (total : AeadResult) (et : total ≡ totalLen p phase held 0)
       (es : sized ≡ then total (room available)) where
     by-size : (k : AeadResult) → sized ≡ k → then k (whole p phase held) ≡ endCheck p phase held available
     unfolding endCheck
-    by-size k told =
+    by-size k answered =
         ap (λ (x : AeadResult). then x (whole p phase held))
-        (sym told ∙ es ∙ ap (λ (x : AeadResult). then x (room available)) et)
+        (sym answered ∙ es ∙ ap (λ (x : AeadResult). then x (room available)) et)
         ∙ ap (λ (x : AeadResult). then x (λ _. then (then (totalLen p phase held 0) (room available)) (whole p phase held)))
         (sym passed ∙ ef)
 
     pub endCheck-unsized : (x : AeadError) → sized ≡ Err x → sized ≡ endCheck p phase held available
-    endCheck-unsized x told = told ∙ by-size (Err x) told
+    endCheck-unsized x answered = answered ∙ by-size (Err x) answered
 
-    module _ (n : ℕ) (told : sized ≡ Ok n) where
+    module _ (n : ℕ) (answered : sized ≡ Ok n) where
       pub endCheck-sealing : opening phase ≡ false → sized ≡ endCheck p phase held available
-      endCheck-sealing seals = told ∙ rw (← by-size (Ok n) told, seals) refl
+      endCheck-sealing seals = answered ∙ rw (← by-size (Ok n) answered, seals) refl
 
       module _ (opens : opening phase ≡ true) (minimum actual : ℕ) (em : minimum ≡ p .key) (ea : actual ≡ heldData p phase held) where
         pub endCheck-short : actual < minimum → Err (CiphertextTooShort minimum actual) ≡ endCheck p phase held available
-        endCheck-short short = rw (← by-size (Ok n) told, ← ea, ← em, opens, lt-ltb _ _ short) refl
+        endCheck-short short = rw (← by-size (Ok n) answered, ← ea, ← em, opens, lt-ltb _ _ short) refl
 
         pub endCheck-whole : minimum ≤ actual → sized ≡ endCheck p phase held available
-        endCheck-whole enough = told ∙ rw (← by-size (Ok n) told, ← ea, ← em, opens, le-ltb _ _ enough) refl
+        endCheck-whole enough = answered ∙ rw (← by-size (Ok n) answered, ← ea, ← em, opens, le-ltb _ _ enough) refl
 
 -- ---- A data call's check.
 module _ (p : Params) (phase : Phase) (held n available : ℕ) (first : AeadResult) (ef : first ≡ phaseCheck phase) where
   pub dataCheck-refused : (x : AeadError) → first ≡ Err x → first ≡ dataCheck p phase held n available
   unfolding dataCheck
-  dataCheck-refused x told =
-      told ∙ ap (λ (k : AeadResult). then k (λ _. then (updateLen p phase held n) (room available))) (sym told ∙ ef)
+  dataCheck-refused x answered =
+      answered ∙ ap (λ (k : AeadResult). then k (λ _. then (updateLen p phase held n) (room available))) (sym answered ∙ ef)
 
   pub dataCheck-sized : (m : ℕ) → first ≡ Ok m → (length sized : AeadResult) → length ≡ updateLen p phase held n
       → sized ≡ then length (room available) → sized ≡ dataCheck p phase held n available

@@ -99,14 +99,14 @@ module _ (e : SparkleEngine) (input out : List ℕ) (answer : AeadResult)
     (checked : answer ≡ dataAnswer e (length input) (length out)) where
   pub data-refused : (x : AeadError) → answer ≡ Err x → record { answer = answer; engine = e } ≡ processBytes e input out
   unfolding processBytes
-  data-refused x told =
-      (λ i. record { answer = told i; engine = e }) ∙ ap (λ (k : AeadResult). dataBy k e input) (sym told ∙ checked)
+  data-refused x accepted =
+      (λ i. record { answer = accepted i; engine = e }) ∙ ap (λ (k : AeadResult). dataBy k e input) (sym accepted ∙ checked)
 
   pub data-refused-out : (x : AeadError) → answer ≡ Err x → out ≡ processBytesOut e input out
   unfolding processBytesOut
-  data-refused-out x told = ap (λ (k : AeadResult). dataOutBy k e input out) (sym told ∙ checked)
+  data-refused-out x accepted = ap (λ (k : AeadResult). dataOutBy k e input out) (sym accepted ∙ checked)
 
-  module _ (n : ℕ) (told : answer ≡ Ok n) (at : Point)
+  module _ (n : ℕ) (accepted : answer ≡ Ok n) (at : Point)
       (begins : at ≡ beginPoint (paramsOf (e .variant)) (e .current .phase) (e .current)) where
     -- the point of the engine in which the data begins, and its parameters
     point-is : at ≡ beginData e .current
@@ -129,11 +129,11 @@ module _ (e : SparkleEngine) (input out : List ℕ) (answer : AeadResult)
         en ∙ ap (λ (k : ℕ). atPoint (atPoint e x k) (done .point) (done .steps)) ef
         ∙ begin-at e (e .current .phase) x (done .point) (done .steps)
         ∙ ap (λ (y : Progress). atPoint (beginBy (e .current .phase) e) (y .point) (y .steps)) to in
-        (λ i. record { answer = told i; engine = moved i }) ∙ ap (λ (k : AeadResult). dataBy k e input) (sym told ∙ checked)
+        (λ i. record { answer = accepted i; engine = moved i }) ∙ ap (λ (k : AeadResult). dataBy k e input) (sym accepted ∙ checked)
 
     pub data-taken-out : (out₁ : List ℕ) → out₁ ≡ written (streamOut (paramsOf (e .variant)) at input) out
         → out₁ ≡ processBytesOut e input out
     unfolding processBytesOut dataOut
     data-taken-out out₁ eo =
         eo ∙ ap₂ (λ (p : Params) (y : Point). written (streamOut p y input) out) params-are point-is
-        ∙ ap (λ (k : AeadResult). dataOutBy k e input out) (sym told ∙ checked)
+        ∙ ap (λ (k : AeadResult). dataOutBy k e input out) (sym accepted ∙ checked)

@@ -144,12 +144,12 @@ module _ {e : SparkleEngine} {at : Point} {out : List ℕ} {n : ℕ} {opens : Bo
       → finish (atPoint e x first) (answered answer (end .mac)) d (end .mac) (end .steps)
       ≡ finish (beginData e) (answered (Ok n) (end′ .mac)) d (end′ .mac) (end′ .steps)
   unfolding finish beginData
-  ended-is answer told first ef x d end end′ ee =
+  ended-is answer accepted first ef x d end end′ ee =
       let begins =
       ap (λ (k : ℕ). finalEngine (atPoint e x k) d (end′ .mac) (end′ .steps)) ef
       ∙ begin-ended e (e .current .phase) x d (end′ .mac) (end′ .steps) in
       ap (λ (y : End). finish (atPoint e x first) (answered answer (y .mac)) d (y .mac) (y .steps)) ee
-      ∙ (λ i. record { answer = answered (told i) (end′ .mac); engine = begins i })
+      ∙ (λ i. record { answer = answered (accepted i) (end′ .mac); engine = begins i })
 
   -- a sealing
   module _ (seals : opens ≡ false) where
@@ -170,10 +170,10 @@ module _ {e : SparkleEngine} {at : Point} {out : List ℕ} {n : ℕ} {opens : Bo
         → done ≡ finish (atPoint e x first) (answered answer (end .mac)) Encrypt (end .mac) (end .steps)
         → done ≡ doFinal e out
     unfolding doFinal sealFinal finish readable
-    final-sealed answer told first ef x end ee done ed =
+    final-sealed answer accepted first ef x end ee done ed =
         rw (t .passed, sealing)
         (ed
-        ∙ ended-is answer told first ef x Encrypt end (sealOf (beginData e .variant) (beginData e .pair) (beginData e .current))
+        ∙ ended-is answer accepted first ef x Encrypt end (sealOf (beginData e .variant) (beginData e .pair) (beginData e .current))
         (ee ∙ parts-are sealOf))
 
     pub final-sealed-out : (out₁ : List ℕ)
@@ -205,12 +205,12 @@ module _ {e : SparkleEngine} {at : Point} {out : List ℕ} {n : ℕ} {opens : Bo
         → (done : Done) → done ≡ finish (atPoint e x first) (answered answer (end .mac)) Decrypt (end .mac) (end .steps)
         → done ≡ doFinal e out
     unfolding doFinal openFinal
-    final-opened answer told first ef x end ee done ed =
+    final-opened answer accepted first ef x end ee done ed =
         let r = openOf (beginData e .variant) (beginData e .pair) (beginData e .current) in
         let p = paramsOf (beginData e .variant) in
         let right = tagMatches p (currentKey p (beginData e .pair)) (beginData e .current) in
         rw (t .passed, opened)
-        (ed ∙ ended-is answer told first ef x Decrypt end r (ee ∙ parts-are openOf)
+        (ed ∙ ended-is answer accepted first ef x Decrypt end r (ee ∙ parts-are openOf)
         ∙ open-end-by right (beginData e) n r refl)
 
     pub final-opened-out : (out₁ : List ℕ) → out₁ ≡ written (openOut (paramsOf (e .variant)) (currentKey (paramsOf (e .variant)) (e .pair)) at) out → out₁ ≡ doFinalOut e out

@@ -69,23 +69,23 @@ module _ (e : SparkleEngine) (input : List ℕ) (answer : AeadResult) (some : le
     (checked : answer ≡ headerCheck (e .current .phase)) where
   by-check : (k : AeadResult) → answer ≡ k → aadBy k e input ≡ processAadBytes e input
   unfolding processAadBytes aadCheck
-  by-check k told = rw (ne-eqb (length input) 0 some) (ap (λ (x : AeadResult). aadBy x e input) (sym told ∙ checked))
+  by-check k accepted = rw (ne-eqb (length input) 0 some) (ap (λ (x : AeadResult). aadBy x e input) (sym accepted ∙ checked))
 
   pub aad-refused : (x : AeadError) → answer ≡ Err x → record { answer = answer; engine = e } ≡ processAadBytes e input
-  aad-refused x told = (λ i. record { answer = told i; engine = e }) ∙ by-check (Err x) told
+  aad-refused x accepted = (λ i. record { answer = accepted i; engine = e }) ∙ by-check (Err x) accepted
 
   pub aad-taken : (n : ℕ) → answer ≡ Ok n → (d : Direction) (next : Point) (steps : ℕ) (engine : SparkleEngine)
       → d ≡ directionOf (e .current .phase) → next ≡ absorbHeader (paramsOf (e .variant)) d (e .current) input
       → steps ≡ headerSteps (paramsOf (e .variant)) (e .current) input → engine ≡ atPoint e next steps
       → record { answer = answer; engine = engine } ≡ processAadBytes e input
-  aad-taken n told d next steps engine ed ep es en =
+  aad-taken n accepted d next steps engine ed ep es en =
       let p = paramsOf (e .variant) in
       let phase = e .current .phase in
-      let passed = sym checked ∙ told in
+      let passed = sym checked ∙ accepted in
       let ep′ = ep ∙ ap (λ (x : Direction). absorbHeader p x (e .current) input) ed in
       let en′ = en ∙ ap₂ (atPoint e) ep′ es ∙ sym (aadIn-passed phase n e input passed) in
       (λ i. record { answer = (checked ∙ count-zero phase n passed) i; engine = en′ i })
-      ∙ sym (aadBy-some n e input (omega arith)) ∙ by-check (Ok n) told
+      ∙ sym (aadBy-some n e input (omega arith)) ∙ by-check (Ok n) accepted
 
 -- the steps of `count` blocks of n bytes fit: a block has at least 8 bytes and runs at most 12 steps
 pub steps-fit : (p : Params) → Sizes p → Small p → (count n : ℕ) → count * p .rate ≤ n → n < 2 ^ 63 + 64

@@ -108,14 +108,14 @@ module _ (e : SparkleEngine) (d : Direction) (key nonce : List ℕ) (size : ℕ)
     (ec : check ≡ startCheck (e .variant) d (length key) (length nonce) size again) where
   init-by : (answer : AeadInitResult) → check ≡ answer → initBy answer e d key nonce header ≡ init e d key nonce size header
   unfolding init
-  init-by answer told =
+  init-by answer accepted =
       ap (λ (x : AeadInitResult). initBy x e d key nonce header)
-      (sym told ∙ ec ∙ ap (startCheck (e .variant) d (length key) (length nonce) size) ea)
+      (sym accepted ∙ ec ∙ ap (startCheck (e .variant) d (length key) (length nonce) size) ea)
 
   pub init-taken : check ≡ Accepted → engine ≡ started e d key nonce header
       → record { answer = check; engine = engine } ≡ init e d key nonce size header
-  init-taken told en = (λ i. record { answer = told i; engine = en i }) ∙ init-by Accepted told
+  init-taken accepted en = (λ i. record { answer = accepted i; engine = en i }) ∙ init-by Accepted accepted
 
   pub init-refused : (x : AeadInitError) → check ≡ Refused x → engine ≡ refused e
       → record { answer = check; engine = engine } ≡ init e d key nonce size header
-  init-refused x told en = (λ i. record { answer = told i; engine = en i }) ∙ init-by (Refused x) told
+  init-refused x accepted en = (λ i. record { answer = accepted i; engine = en i }) ∙ init-by (Refused x) accepted

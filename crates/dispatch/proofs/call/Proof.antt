@@ -6,9 +6,9 @@ use Rattle.dispatch.proofs.call.Tie as tie
 
 returns : tie.Need-returns
 returns c =
-    let told = c .before .before .before in
+    let answered = c .before .before .before in
     let s = c .before .before .before .before .before .before .before .before .before .args in
-    init-gives (s .e) (s .kind) (s .number) (s .first .now) (s .second .now) (s .third .now) (s .output .now) _ (told .kind .given .1) _ (c .before .init .ensures) _ (c .started .ensures)
+    init-gives (s .e) (s .kind) (s .number) (s .first .now) (s .second .now) (s .third .now) (s .output .now) _ (answered .kind .given .1) _ (c .before .init .ensures) _ (c .started .ensures)
 
 returns-2 : tie.Need-returns-2
 returns-2 c =

@@ -9,8 +9,8 @@ returns c = dataCheck-refused _ _ _ _ _ _ (c .before .before .phase-check .ensur
 
 returns-2 : tie.Need-returns-2
 returns-2 c =
-    let told = c .before .before in
-    dataCheck-sized _ _ _ _ _ _ (told .before .before .phase-check .ensures) _ (told .enum-told .given .1) _ _
+    let answered = c .before .before in
+    dataCheck-sized _ _ _ _ _ _ (answered .before .before .phase-check .ensures) _ (answered .enum-told .given .1) _ _
     (c .before .update-len .ensures) (c .with-room .ensures)
 
 pub data-check-spec : {M : Type 1} → statement M

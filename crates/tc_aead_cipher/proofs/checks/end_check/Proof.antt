@@ -11,8 +11,8 @@ returns c = endCheck-refused _ _ _ _ _ (c .before .before .phase-check .ensures)
 returns-2 : tie.Need-returns-2
 returns-2 c =
     let sized = c .before .before in
-    let told = sized .before .before in
-    endCheck-unsized _ _ _ _ _ (told .before .before .phase-check .ensures) _ (told .enum-told .given .1) _ _
+    let answered = sized .before .before in
+    endCheck-unsized _ _ _ _ _ (answered .before .before .phase-check .ensures) _ (answered .enum-told .given .1) _ _
     (sized .before .total-len .ensures) (sized .with-room .ensures) _ (c .enum-told4 .given .1)
 
 returns-3 : tie.Need-returns-3
@@ -20,8 +20,8 @@ returns-3 c =
     let branch = c .before .before .before in
     let fits = branch .before .before in
     let sized = fits .before .before in
-    let told = sized .before .before in
-    endCheck-short _ _ _ _ _ (told .before .before .phase-check .ensures) _ (told .enum-told .given .1) _ _
+    let answered = sized .before .before in
+    endCheck-short _ _ _ _ _ (answered .before .before .phase-check .ensures) _ (answered .enum-told .given .1) _ _
     (sized .before .total-len .ensures) (sized .with-room .ensures) _ (fits .enum-told3 .given .1)
     (sym (branch .before .opening .ensures) ∙ branch .if1 .taken) _ _ (c .before .before .tag-bytes .ensures)
     (c .before .held-data .ensures) (c .if2 .taken)
@@ -31,8 +31,8 @@ returns-4 c =
     let branch = c .before .before .before in
     let fits = branch .before .before in
     let sized = fits .before .before in
-    let told = sized .before .before in
-    endCheck-whole _ _ _ _ _ (told .before .before .phase-check .ensures) _ (told .enum-told .given .1) _ _
+    let answered = sized .before .before in
+    endCheck-whole _ _ _ _ _ (answered .before .before .phase-check .ensures) _ (answered .enum-told .given .1) _ _
     (sized .before .total-len .ensures) (sized .with-room .ensures) _ (fits .enum-told3 .given .1)
     (sym (branch .before .opening .ensures) ∙ branch .if1 .taken) _ _ (c .before .before .tag-bytes .ensures)
     (c .before .held-data .ensures) (c .if2 .left)
@@ -41,8 +41,8 @@ returns-5 : tie.Need-returns-5
 returns-5 c =
     let fits = c .before .before in
     let sized = fits .before .before in
-    let told = sized .before .before in
-    endCheck-sealing _ _ _ _ _ (told .before .before .phase-check .ensures) _ (told .enum-told .given .1) _ _
+    let answered = sized .before .before in
+    endCheck-sealing _ _ _ _ _ (answered .before .before .phase-check .ensures) _ (answered .enum-told .given .1) _ _
     (sized .before .total-len .ensures) (sized .with-room .ensures) _ (fits .enum-told3 .given .1)
     (sym (c .before .opening .ensures) ∙ c .if1 .left)
 

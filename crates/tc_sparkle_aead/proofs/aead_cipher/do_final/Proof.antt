@@ -15,9 +15,9 @@ accepted : (c : tie.After-opening)
     (c .before .before .before .before .before .enum-told .given .0 .0) (c .opening .result)
 accepted c =
     let begun = c .before .before .before .before in
-    let told = begun .before in
+    let passed = begun .before in
     record {
-      passed = sym (told .before .before .end-check .ensures) ∙ told .enum-told .given .1;
+      passed = sym (passed .before .before .end-check .ensures) ∙ passed .enum-told .given .1;
       begins = begun .begin-data .ensures;
       direction = c .opening .ensures;
     }
@@ -39,9 +39,9 @@ returns-2 c =
     let end = c .before .before .before in
     let branch = end .before .before in
     let first = branch .before .before in
-    let told = first .before .before .before .before in
+    let passed = first .before .before .before .before in
     let t = accepted (branch .before) in (
-      final-opened t (branch .if1 .taken) _ (told .enum-told .given .1) _ (first .begin-steps .ensures) _ _
+      final-opened t (branch .if1 .taken) _ (passed .enum-told .given .1) _ (first .begin-steps .ensures) _ _
           (end .open-end .ensures .0) _ (c .finish .ensures),
       final-opened-out t (branch .if1 .taken) _ (end .open-end .ensures .1),
     )
@@ -55,9 +55,9 @@ returns-3 c =
     let end = c .before .before .before in
     let branch = end .before .before in
     let first = branch .before .before in
-    let told = first .before .before .before .before in
+    let passed = first .before .before .before .before in
     let t = accepted (branch .before) in (
-      final-sealed t (branch .if1 .left) _ (told .enum-told .given .1) _ (first .begin-steps .ensures) _ _
+      final-sealed t (branch .if1 .left) _ (passed .enum-told .given .1) _ (first .begin-steps .ensures) _ _
           (end .seal-end .ensures .0) _ (c .finish2 .ensures),
       final-sealed-out t (branch .if1 .left) _ (end .seal-end .ensures .1),
     )

@@ -8,11 +8,11 @@ use Rattle.tc_sparkle_aead.proofs.aead_cipher.init.Tie as tie
 
 returns : tie.Need-returns
 returns c =
-    let told = c .before in
-    let check = told .before .before in
+    let accepted = c .before in
+    let check = accepted .before .before in
     let s = check .before .before .before .before .before .before .args in
     init-refused (s .e) (s .direction) (s .key .now) (s .nonce .now) (s .mac-size) (s .initial-aad .now) _ _ _
-    (check .before .repeats .ensures) (check .start-check .ensures) _ (told .enum-told2 .given .1) (c .refused .ensures)
+    (check .before .repeats .ensures) (check .start-check .ensures) _ (accepted .enum-told2 .given .1) (c .refused .ensures)
 
 start-requires : tie.Need-start-requires
 start-requires c κs =
@@ -20,11 +20,11 @@ start-requires c κs =
 
 returns-2 : tie.Need-returns-2
 returns-2 c =
-    let told = c .before in
-    let check = told .before .before in
+    let accepted = c .before in
+    let check = accepted .before .before in
     let s = check .before .before .before .before .before .before .args in
     init-taken (s .e) (s .direction) (s .key .now) (s .nonce .now) (s .mac-size) (s .initial-aad .now) _ _ _
-    (check .before .repeats .ensures) (check .start-check .ensures) (told .enum-told .given .1)
+    (check .before .repeats .ensures) (check .start-check .ensures) (accepted .enum-told .given .1)
     (c .start .ensures ∙ started-by-variant (s .e) (s .direction) (s .key .now) (s .nonce .now) (s .initial-aad .now))
 
 pub init-spec : {M : Type 1} → statement M

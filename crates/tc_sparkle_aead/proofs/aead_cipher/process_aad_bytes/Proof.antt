@@ -19,11 +19,11 @@ returns-2 c =
 returns-3 : tie.Need-returns-3
 returns-3 c =
     let next = c .before .before in
-    let told = next .before .before in
-    let check = told .before .before in
+    let accepted = next .before .before in
+    let check = accepted .before .before in
     let some = check .before in
     let s = some .before .before .before .args in
-    aad-taken (s .e) (s .input .now) _ (some .if1 .left) (check .header-check .ensures) _ (told .enum-told .given .1) _ _ _ _
+    aad-taken (s .e) (s .input .now) _ (some .if1 .left) (check .header-check .ensures) _ (accepted .enum-told .given .1) _ _ _ _
     (next .before .direction .ensures) (next .absorb .ensures) (c .before .header-steps .ensures) (c .at-point .ensures)
 
 pub process-aad-bytes-spec : {M : Type 1} → statement M

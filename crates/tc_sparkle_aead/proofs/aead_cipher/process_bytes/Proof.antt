@@ -22,13 +22,13 @@ returns c =
 
 data-in-requires : tie.Need-data-in-requires
 data-in-requires c κs =
-    let told = c .before .before in
-    let check = told .before .before in
+    let accepted = c .before .before in
+    let check = accepted .before .before in
     let s = check .before .before .before .before in
     let e = s .args .e in
     rw (c .before .begin-data .ensures)
     (data-room (paramsOf (e .variant)) (small (e .variant)) (e .current .phase) (e .current) refl (buffer-length s)
-    (s .args .input .now) _ _ (sym (check .data-check .ensures) ∙ told .enum-told .given .1))
+    (s .args .input .now) _ _ (sym (check .data-check .ensures) ∙ accepted .enum-told .given .1))
 
 returns-2 : tie.Need-returns-2
 unfolding atPoint
@@ -37,13 +37,13 @@ returns-2 c =
     let first = stepped .before in
     let done = first .before .before .before .before in
     let begun = done .before .before in
-    let told = begun .before in
-    let check = told .before .before in
+    let accepted = begun .before in
+    let check = accepted .before .before in
     let s = check .before .before .before .before .args in (
-      data-taken (s .e) (s .input .now) (s .output .now) _ (check .data-check .ensures) _ (told .enum-told .given .1) _
+      data-taken (s .e) (s .input .now) (s .output .now) _ (check .data-check .ensures) _ (accepted .enum-told .given .1) _
           (begun .begin-data .ensures) _ (first .begin-steps .ensures) (s .e .current) _ (done .data-in .ensures .0) _
           (rw (stepped .add-steps .ensures) at (c .at-point .ensures)),
-      data-taken-out (s .e) (s .input .now) (s .output .now) _ (check .data-check .ensures) _ (told .enum-told .given .1) _
+      data-taken-out (s .e) (s .input .now) (s .output .now) _ (check .data-check .ensures) _ (accepted .enum-told .given .1) _
           (begun .begin-data .ensures) _ (done .data-in .ensures .1),
     )
 

@@ -7,15 +7,15 @@ use Rattle.tc_sparkle_aead.proofs.message.begin_data.Tie as tie
 
 returns : tie.Need-returns
 returns c =
-    let told = c .before .before in
-    let s = told .before .before .args in
-    begin-init (paramsOf (s .variant)) (s .at) _ (told .phase .given .1) (c .without-header .ensures)
+    let accepted = c .before .before in
+    let s = accepted .before .before .args in
+    begin-init (paramsOf (s .variant)) (s .at) _ (accepted .phase .given .1) (c .without-header .ensures)
 
 returns-2 : tie.Need-returns-2
 returns-2 c =
-    let told = c .before .before in
-    let s = told .before .before .args in
-    begin-aad (paramsOf (s .variant)) (s .at) _ (told .phase2 .given .1) (c .after-header .ensures)
+    let accepted = c .before .before in
+    let s = accepted .before .before .args in
+    begin-aad (paramsOf (s .variant)) (s .at) _ (accepted .phase2 .given .1) (c .after-header .ensures)
 
 returns-3 : tie.Need-returns-3
 returns-3 c =
