@@ -1,9 +1,13 @@
 -- What a call that is given by its kind leaves: the reply, the engine and the output.
 use mathlib.Core.List.{List}
 use Prim.Native.Nat.{ℕ}
+use Rattle.tc_aead_cipher.specs.declared.call.CallKind.{CallKind}
+use Rattle.tc_aead_cipher.specs.declared.call.CallKind.the-variants.{Init, Aad, Data, Final, Reset, Mac, Update, Output}
 use Rattle.tc_aead_cipher.specs.Call.{Call}
 use Rattle.tc_aead_cipher.specs.Reply.{replyOf}
 use Rattle.tc_sparkle_aead.specs.declared.engine.SparkleEngine.{SparkleEngine}
+use Rattle.tc_sparkle_aead.specs.declared.engine.Done.{Done}
+use Rattle.tc_sparkle_aead.specs.Calls.{processBytes, processBytesOut, doFinal, doFinalOut}
 use Rattle.tc_sparkle_aead.specs.Sheet.{StepResult, step}
 use Rattle.dispatch.specs.declared.Called.{Called}
 
@@ -24,3 +28,24 @@ outputAfter e Call.Reset out = out
 outputAfter e Call.Mac out = out
 outputAfter e (Call.Update n) out = out
 outputAfter e (Call.Output n) out = out
+
+-- A data call, or the end for every other kind.
+unfoldable pub dataOrEnd : SparkleEngine → CallKind → (input out : List ℕ) → Done
+dataOrEnd e Data input out = processBytes e input out
+dataOrEnd e (Init d) input out = doFinal e out
+dataOrEnd e Aad input out = doFinal e out
+dataOrEnd e Final input out = doFinal e out
+dataOrEnd e Reset input out = doFinal e out
+dataOrEnd e Mac input out = doFinal e out
+dataOrEnd e Update input out = doFinal e out
+dataOrEnd e Output input out = doFinal e out
+
+unfoldable pub dataOrEndOut : SparkleEngine → CallKind → (input out : List ℕ) → List ℕ
+dataOrEndOut e Data input out = processBytesOut e input out
+dataOrEndOut e (Init d) input out = doFinalOut e out
+dataOrEndOut e Aad input out = doFinalOut e out
+dataOrEndOut e Final input out = doFinalOut e out
+dataOrEndOut e Reset input out = doFinalOut e out
+dataOrEndOut e Mac input out = doFinalOut e out
+dataOrEndOut e Update input out = doFinalOut e out
+dataOrEndOut e Output input out = doFinalOut e out

@@ -7,7 +7,7 @@ ghost use Rattle.tc_aead_cipher.specs.Call.{callOf};
 ghost use Rattle.tc_aead_cipher.specs.Outcome.{outcome, startOutcome};
 ghost use Rattle.tc_aead_cipher.specs.Reply.{replyOf};
 ghost use Rattle.tc_sparkle_aead.specs.Calls.{macOf};
-ghost use Rattle.dispatch.specs.Called.{called, outputAfter};
+ghost use Rattle.dispatch.specs.Called.{called, outputAfter, dataOrEnd, dataOrEndOut};
 use tc_aead_cipher::call::CallKind;
 use tc_aead_cipher::reply;
 use tc_aead_cipher::reply::Reply;
@@ -53,6 +53,18 @@ fn tag_len(e: SparkleEngine) -> usize
     if m.readable { engine::tag_bytes(e) } else { 0 }
 }
 
+// A data call, or else the end. Their answers have one type, so `call` copies the engine of both in one
+// place, which is smaller and faster than an arm for each.
+fn data_or_end(e: SparkleEngine, kind: CallKind, input: &[u8], output: &mut [u8]) -> Done
+    ensures { λ r. ⌜ r ≡ dataOrEnd e kind (now (input .entry)) (now (output .entry)) ⌝ }
+    ensures { λ _. ⌜ now (output .exit) ≡ dataOrEndOut e kind (now (input .entry)) (now (output .entry)) ⌝ }
+{
+    match kind {
+        CallKind::Data => aead_cipher::process_bytes(e, input, output),
+        _ => aead_cipher::do_final(e, output),
+    }
+}
+
 // Makes the call of a kind. What the kind does not take is not looked at.
 pub fn call(
     e: SparkleEngine,
@@ -69,8 +81,6 @@ pub fn call(
     match kind {
         CallKind::Init(d) => started(aead_cipher::init(e, d, first, second, number, third)),
         CallKind::Aad => done(aead_cipher::process_aad_bytes(e, first)),
-        CallKind::Data => done(aead_cipher::process_bytes(e, first, output)),
-        CallKind::Final => done(aead_cipher::do_final(e, output)),
         CallKind::Reset => Called {
             reply: reply::count(0),
             engine: aead_cipher::reset(e),
@@ -87,5 +97,6 @@ pub fn call(
             reply: reply::reply_of(aead_cipher::output_len(e, number)),
             engine: e,
         },
+        _ => done(data_or_end(e, kind, first, output)),
     }
 }

@@ -175,7 +175,7 @@ fn put_asked(kind: CallKind, e: SparkleEngine, out: &mut [u8])
 
 // Makes a call and writes its answer to the front of `out`. What is lent as an output stands behind
 // the head.
-pub(crate) fn answer(e: SparkleEngine, h: Head, runs: &[u8], out: &mut [u8]) -> SparkleEngine
+pub(crate) fn answer(mut e: SparkleEngine, h: Head, runs: &[u8], out: &mut [u8]) -> SparkleEngine
     requires { ⌜ (h .first + h .second + h .third ≤ length (now runs)) × (34 + shownLength h ≤ length (now out)) ⌝ }
     ensures { λ r. ⌜ r ≡ step e (callIn h (now (runs .entry))) .engine ⌝ }
     ensures { λ _. ⌜ now (out .exit) ≡ answerOf e (callIn h (now (runs .entry))) ++ drop (34 + shownLength h) (now (out .entry)) ⌝ }
@@ -199,7 +199,9 @@ pub(crate) fn answer(e: SparkleEngine, h: Head, runs: &[u8], out: &mut [u8]) -> 
     );
     let r = d.reply;
     let next = d.engine;
-    put_asked(kind, next, out);
-    put_head(out, r, next, shown_by(kind, h.third));
-    next
+    // stored to the parameter, which costs fewer moves than a second engine
+    e = next;
+    put_asked(kind, e, out);
+    put_head(out, r, e, shown_by(kind, h.third));
+    e
 }
