@@ -69,10 +69,10 @@ module _ (e : SparkleEngine) (input : List ℕ) (answer : AeadResult) (some : le
     (checked : answer ≡ headerCheck (e .current .phase)) where
   by-check : (k : AeadResult) → answer ≡ k → aadBy k e input ≡ processAadBytes e input
   unfolding processAadBytes aadCheck
-  by-check k accepted = rw (ne-eqb (length input) 0 some) (ap (λ (x : AeadResult). aadBy x e input) (sym accepted ∙ checked))
+  by-check k is = rw (ne-eqb (length input) 0 some) (ap (λ (x : AeadResult). aadBy x e input) (sym is ∙ checked))
 
   pub aad-refused : (x : AeadError) → answer ≡ Err x → record { answer = answer; engine = e } ≡ processAadBytes e input
-  aad-refused x accepted = (λ i. record { answer = accepted i; engine = e }) ∙ by-check (Err x) accepted
+  aad-refused x no = (λ i. record { answer = no i; engine = e }) ∙ by-check (Err x) no
 
   pub aad-taken : (n : ℕ) → answer ≡ Ok n → (d : Direction) (next : Point) (steps : ℕ) (engine : SparkleEngine)
       → d ≡ directionOf (e .current .phase) → next ≡ absorbHeader (paramsOf (e .variant)) d (e .current) input

@@ -108,9 +108,9 @@ module _ (e : SparkleEngine) (d : Direction) (key nonce : List ℕ) (size : ℕ)
     (ec : check ≡ startCheck (e .variant) d (length key) (length nonce) size again) where
   init-by : (answer : AeadInitResult) → check ≡ answer → initBy answer e d key nonce header ≡ init e d key nonce size header
   unfolding init
-  init-by answer accepted =
+  init-by answer is =
       ap (λ (x : AeadInitResult). initBy x e d key nonce header)
-      (sym accepted ∙ ec ∙ ap (startCheck (e .variant) d (length key) (length nonce) size) ea)
+      (sym is ∙ ec ∙ ap (startCheck (e .variant) d (length key) (length nonce) size) ea)
 
   pub init-taken : check ≡ Accepted → engine ≡ started e d key nonce header
       → record { answer = check; engine = engine } ≡ init e d key nonce size header
@@ -118,4 +118,4 @@ module _ (e : SparkleEngine) (d : Direction) (key nonce : List ℕ) (size : ℕ)
 
   pub init-refused : (x : AeadInitError) → check ≡ Refused x → engine ≡ refused e
       → record { answer = check; engine = engine } ≡ init e d key nonce size header
-  init-refused x accepted en = (λ i. record { answer = accepted i; engine = en i }) ∙ init-by (Refused x) accepted
+  init-refused x no en = (λ i. record { answer = no i; engine = en i }) ∙ init-by (Refused x) no
