@@ -99,12 +99,12 @@ module _ (e : SparkleEngine) (input out : List ℕ) (answer : AeadResult)
     (checked : answer ≡ dataAnswer e (length input) (length out)) where
   pub data-refused : (x : AeadError) → answer ≡ Err x → record { answer = answer; engine = e } ≡ processBytes e input out
   unfolding processBytes
-  data-refused x no =
-      (λ i. record { answer = no i; engine = e }) ∙ ap (λ (k : AeadResult). dataBy k e input) (sym no ∙ checked)
+  data-refused x q =
+      (λ i. record { answer = q i; engine = e }) ∙ ap (λ (k : AeadResult). dataBy k e input) (sym q ∙ checked)
 
   pub data-refused-out : (x : AeadError) → answer ≡ Err x → out ≡ processBytesOut e input out
   unfolding processBytesOut
-  data-refused-out x no = ap (λ (k : AeadResult). dataOutBy k e input out) (sym no ∙ checked)
+  data-refused-out x q = ap (λ (k : AeadResult). dataOutBy k e input out) (sym q ∙ checked)
 
   module _ (n : ℕ) (accepted : answer ≡ Ok n) (at : Point)
       (begins : at ≡ beginPoint (paramsOf (e .variant)) (e .current .phase) (e .current)) where

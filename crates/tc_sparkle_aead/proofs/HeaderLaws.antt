@@ -72,7 +72,7 @@ module _ (e : SparkleEngine) (input : List ℕ) (answer : AeadResult) (some : le
   by-check k is = rw (ne-eqb (length input) 0 some) (ap (λ (x : AeadResult). aadBy x e input) (sym is ∙ checked))
 
   pub aad-refused : (x : AeadError) → answer ≡ Err x → record { answer = answer; engine = e } ≡ processAadBytes e input
-  aad-refused x no = (λ i. record { answer = no i; engine = e }) ∙ by-check (Err x) no
+  aad-refused x q = (λ i. record { answer = q i; engine = e }) ∙ by-check (Err x) q
 
   pub aad-taken : (n : ℕ) → answer ≡ Ok n → (d : Direction) (next : Point) (steps : ℕ) (engine : SparkleEngine)
       → d ≡ directionOf (e .current .phase) → next ≡ absorbHeader (paramsOf (e .variant)) d (e .current) input

@@ -118,4 +118,4 @@ module _ (e : SparkleEngine) (d : Direction) (key nonce : List ℕ) (size : ℕ)
 
   pub init-refused : (x : AeadInitError) → check ≡ Refused x → engine ≡ refused e
       → record { answer = check; engine = engine } ≡ init e d key nonce size header
-  init-refused x no en = (λ i. record { answer = no i; engine = en i }) ∙ init-by (Refused x) no
+  init-refused x q en = (λ i. record { answer = q i; engine = en i }) ∙ init-by (Refused x) q
