@@ -61,7 +61,7 @@ initialIn p (Aad d) key nonce initial = headPoint p (headerPhase d initial) key 
 initialIn p (Data d) key nonce initial = headPoint p (headerPhase d initial) key nonce initial
 initialIn p (Final d) key nonce initial = headPoint p (headerPhase d initial) key nonce initial
 
--- What the engine remembers of the loads, which are told last first.
+-- What the engine remembers of the loads, listed from the last one back.
 abbrev pub pairIn : List Load → Pair
 pairIn [] = noPair
 pairIn (l ∷ loads) = remember (pairIn loads) (l .key) (l .nonce)

@@ -116,7 +116,7 @@ unfolding finish readable noMac
 open-end-by true e n r is = ap (λ (x : End). finish e (answered (Ok n) (x .mac)) Decrypt (x .mac) (x .steps)) is
 open-end-by false e n r is = ap (λ (x : End). finish e (answered (Ok n) (x .mac)) Decrypt (x .mac) (x .steps)) is
 
--- the check has passed with n, the data begins at a point, and the direction is told
+-- the check has passed with n, the data begins at a point, and the direction is known
 pub record Accepted (e : SparkleEngine) (at : Point) (out : List ℕ) (n : ℕ) (opens : Bool) : Type 0 where
   pub passed : finalAnswer e (length out) ≡ Ok n
   pub begins : at ≡ beginPoint (paramsOf (e .variant)) (e .current .phase) (e .current)

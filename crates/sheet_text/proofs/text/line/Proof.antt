@@ -22,9 +22,9 @@ returns c =
     let counted = flagged .before .before .before in
     let answered = counted .before .before .before in
     let named = answered .before .before .before in
-    let begun = named .before .before .before in
-    let a = begun .before .args in
-    let b = bounds (begun .before) in
+    let emptied = named .before .before .before in
+    let a = emptied .before .args in
+    let b = bounds (emptied .before) in
     let parts =
     named .before .append .ensures
     ⨾ named .put-name .ensures
@@ -35,7 +35,7 @@ returns c =
     ⨾ flagged .before .append4 .ensures
     ⨾ flagged .put-flag .ensures
     ⨾ c .append5 .ensures in
-    parts .behind [] (begun .empty .ensures)
+    parts .behind [] (emptied .empty .ensures)
     ∙ cut-fits _ (line-fits (a .reply) (b .0) (b .1) (b .2) (a .kind) (a .steps) (a .readable) (b .3))
 
 pub line-spec : {M : Type 1} → statement M

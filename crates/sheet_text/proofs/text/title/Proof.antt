@@ -12,12 +12,12 @@ returns : tie.Need-returns
 unfolding titleText
 returns c =
     let numbered = c .before .before in
-    let begun = numbered .before .before .before .before in
-    let v = begun .before .args .variant in
+    let emptied = numbered .before .before .before .before in
+    let v = emptied .before .args .variant in
     let parts =
     numbered .before .before .append .ensures ⨾ numbered .put-number .ensures ⨾ c .append2 .ensures in
     let e : c .append2 .result ≡ cut (titleText v) =
-    rw (← numbered .before .number .ensures) (parts .behind [] (begun .empty .ensures)) in
+    rw (← numbered .before .number .ensures) (parts .behind [] (emptied .empty .ensures)) in
     e ∙ cut-fits (titleText v) (title-fits v)
 
 pub title-spec : {M : Type 1} → statement M

@@ -6,7 +6,7 @@ use Rattle.tc_sparkle_aead.proofs.FinalLaws.{Accepted, seal-fits, final
 use Rattle.tc_sparkle_aead.proofs.aead_cipher.do_final.Statement.{statement}
 use Rattle.tc_sparkle_aead.proofs.aead_cipher.do_final.Tie as tie
 
--- what is known where the direction is told
+-- what is known behind the check, once the direction is asked for
 accepted : (c : tie.After-opening)
     → Accepted
     (c .before .before .before .before .before .before .before .before .before .before .args .e)
@@ -14,11 +14,11 @@ accepted : (c : tie.After-opening)
     (c .before .before .before .before .before .before .before .before .before .before .args .output .now)
     (c .before .before .before .before .before .enum-told .given .0 .0) (c .opening .result)
 accepted c =
-    let begun = c .before .before .before .before in
-    let passed = begun .before in
+    let data-point = c .before .before .before .before in
+    let passed = data-point .before in
     record {
       passed = sym (passed .before .before .end-check .ensures) ∙ passed .enum-told .given .1;
-      begins = begun .begin-data .ensures;
+      begins = data-point .begin-data .ensures;
       direction = c .opening .ensures;
     }
 
