@@ -9,6 +9,7 @@ use lib.Seq.{paste, take-at, take-all, drop-at, drop-drop, length-take-le, lengt
 use Rattle.tc_aead_cipher.specs.declared.call.CallKind.{CallKind}
 use Rattle.tc_aead_cipher.specs.declared.call.CallKind.the-variants.{Init, Aad, Data, Final, Reset, Mac, Update, Output}
 use Rattle.tc_sparkle_aead.specs.declared.engine.SparkleEngine.{SparkleEngine}
+use Rattle.tc_sparkle_aead.specs.declared.message.Mac.{Mac as Tag}
 use Rattle.tc_sparkle_aead.specs.Calls.{macOf, stepsNow}
 use Rattle.tc_aead_cipher.specs.Call.{Call, callOf}
 use Rattle.tc_sparkle_aead.specs.Sheet.{step, line}
@@ -16,7 +17,7 @@ use Rattle.host.specs.declared.call.Head.{Head}
 use Rattle.tc_aead_cipher.specs.declared.reply.Reply.{Reply}
 use Rattle.tc_aead_cipher.specs.Reply.{replyOf}
 use Rattle.host.specs.Bytes.{number}
-use Rattle.host.specs.CallList.{firstRun, secondRun, thirdRun, kindAt, callIn, shown, shownCount, shownBy, shownLength, lentBy, tagged, flag, answerHead, answerOf}
+use Rattle.host.specs.CallList.{firstRun, secondRun, thirdRun, kindAt, callIn, shown, shownCount, shownBy, shownLength, lentBy, lentRun, tagged, flag, answerHead, answerOf}
 use Rattle.dispatch.specs.declared.Called.{Called}
 use Rattle.dispatch.specs.Called.{called, outputAfter}
 
@@ -129,10 +130,6 @@ module _ (out v w : List ℕ) (m : ℕ) (k : length v ≡ m) (h : 34 + m ≤ len
 
 -- ---- A call by its kind
 
--- The part of the third run that is lent as an output.
-abbrev pub lentRun : CallKind → Head → List ℕ → List ℕ
-lentRun kind h runs = take (lentBy kind (h .third)) (drop (h .first + h .second) runs)
-
 -- a call takes its output where it has one
 call-lent : (kind : CallKind) (h : Head) (runs : List ℕ) (n : ℕ) (first second third : List ℕ)
     → callOf kind n first second third (lentRun kind h runs) ≡ callOf kind n first second third (thirdRun h runs)
@@ -184,7 +181,7 @@ nothing (x ∷ l) e = absurd (omega arith)
 module _ (e : SparkleEngine) (n : ℕ) (first second third lent out : List ℕ) (k : ℕ) where
   -- what an answer shows, behind which the rest stands
   shows : (kind : CallKind) → length lent ≡ lentBy kind k
-      → tagged kind (step e (callOf kind n first second third lent) .engine)
+      → tagged kind (macOf (step e (callOf kind n first second third lent) .engine))
       (outputAfter e (callOf kind n first second third lent) lent ++ drop (34 + lentBy kind k) out)
       ≡ shown e (callOf kind n first second third lent) ++ drop (34 + shownBy kind k) out
   unfolding step outputAfter shown
@@ -209,15 +206,10 @@ module _ (e : SparkleEngine) (n : ℕ) (first second third lent out : List ℕ) 
   shows-count Update size = refl
   shows-count Output size = refl
 
--- The answer, as the code makes it: the lent part of the third run is copied behind the head, lent, and comes back as w;
--- then the tag, where it is asked for, and the head.
-module _ (e : SparkleEngine) (h : Head) (runs out : List ℕ) (fits : h .first + h .second + h .third ≤ length runs)
+-- What a call of some kind is lent as an output: n bytes.
+module _ (h : Head) (runs out : List ℕ) (fits : h .first + h .second + h .third ≤ length runs)
     (room : 34 + shownLength h ≤ length out) (kind : CallKind) (is : kind ≡ kindAt (h .kind)) (n : ℕ)
     (size : n ≡ lentBy kind (h .third)) where
-  -- the part, as the code takes it
-  abbrev pub copied : List ℕ
-  copied = take (h .first + h .second + n - (h .first + h .second)) (drop (h .first + h .second) runs)
-
   shown-length : shownLength h ≡ shownBy kind (h .third)
   unfolding shownLength
   shown-length = rw is refl
@@ -225,26 +217,57 @@ module _ (e : SparkleEngine) (h : Head) (runs out : List ℕ) (fits : h .first +
   pub enough : 34 + shownBy kind (h .third) ≤ length out
   enough = omega (arith, shown-length)
 
-  copied-is : copied ≡ lentRun kind h runs
-  copied-is =
+  pub length-lent : length (lentRun kind h runs) ≡ n
+  length-lent = simp (length-take, length-drop) (omega (arith, lent-third kind (h .third)))
+
+  pub lent-fits : 34 + n ≤ length out
+  lent-fits = omega (arith, enough, lent-shown kind (h .third))
+
+  -- the part, as the code takes it
+  abbrev pub part : List ℕ
+  part = take (h .first + h .second + n - (h .first + h .second)) (drop (h .first + h .second) runs)
+
+  part-is : part ≡ lentRun kind h runs
+  part-is =
       let m : h .first + h .second + n - (h .first + h .second) ≡ lentBy kind (h .third) = omega arith in
       ap (λ (k : ℕ). take k (drop (h .first + h .second) runs)) m
 
-  pub length-copied : length copied ≡ n
-  length-copied = simp (length-take, length-drop) (omega (arith, lent-third kind (h .third)))
+  pub length-part : length part ≡ n
+  length-part = ap length part-is ∙ length-lent
 
-  pub copied-fits : 34 + n ≤ length out
-  copied-fits = omega (arith, enough, lent-shown kind (h .third))
+  -- it is written behind the head
+  pub lent-put : (out₁ : List ℕ) → out₁ ≡ paste out 34 part (length part)
+      → out₁ ≡ paste out 34 (lentRun (kindAt (h .kind)) h runs) (lentBy (kindAt (h .kind)) (h .third))
+  lent-put out₁ put =
+      put ∙ ap₂ (paste out 34) part-is (length-part ∙ size)
+      ∙ ap (λ (x : CallKind). paste out 34 (lentRun x h runs) (lentBy x (h .third))) is
 
-  module _ (out₁ : List ℕ) (put : out₁ ≡ paste out 34 copied (length copied)) where
+-- The answer, as the code makes it: what the call is lent stands behind the head and comes back as w; then the tag,
+-- where it is asked for, and the head.
+module _ (e : SparkleEngine) (h : Head) (runs out : List ℕ) (fits : h .first + h .second + h .third ≤ length runs)
+    (room : 34 + shownLength h ≤ length out) (kind : CallKind) (is : kind ≡ kindAt (h .kind)) (n : ℕ)
+    (size : n ≡ lentBy kind (h .third)) where
+  abbrev copied : List ℕ
+  copied = lentRun kind h runs
+
+  length-copied : length copied ≡ n
+  length-copied = length-lent h runs out fits room kind is n size
+
+  copied-fits : 34 + n ≤ length out
+  copied-fits = lent-fits h runs out fits room kind is n size
+
+  module _ (out₁ : List ℕ) (put : out₁ ≡ paste out 34 (lentRun (kindAt (h .kind)) h runs) (lentBy (kindAt (h .kind)) (h .third))) where
     pasted : out₁ ≡ paste out 34 copied n
-    pasted = put ∙ ap (paste out 34 copied) length-copied
+    pasted =
+        put
+        ∙ ap (λ (x : CallKind). paste out 34 (lentRun x h runs) (lentBy x (h .third))) (sym is)
+        ∙ ap (paste out 34 copied) (sym size)
 
     pub length-pasted : length out₁ ≡ length out
     length-pasted = ap length pasted ∙ length-paste out 34 copied n copied-fits (omega (arith, length-copied))
 
     lent-is : take (34 + n - 34) (drop 34 out₁) ≡ lentRun kind h runs
-    lent-is = rw pasted (lent-part out copied [] n length-copied copied-fits) ∙ copied-is
+    lent-is = rw pasted (lent-part out copied [] n length-copied copied-fits)
 
     -- the call, as the code makes it and as the list has it
     abbrev pub made : Call
@@ -274,7 +297,7 @@ module _ (e : SparkleEngine) (h : Head) (runs out : List ℕ) (fits : h .first +
       length-back =
           let a = length-take-le 34 out₁ (omega (arith, length-pasted, copied-fits)) in
           simp (length-append, length-drop)
-          (omega (arith, a, length-pasted, enough, size, asked-shown kind (h .third)))
+          (omega (arith, a, length-pasted, enough h runs out fits room kind is n size, size, asked-shown kind (h .third)))
 
       behind : drop 34 back ≡ outputAfter e listed (lentRun kind h runs) ++ drop (34 + lentBy kind (h .third)) out
       behind =
@@ -282,29 +305,31 @@ module _ (e : SparkleEngine) (h : Head) (runs out : List ℕ) (fits : h .first +
           b
           ∙ ap₂ (λ (x : List ℕ) (m : ℕ). x ++ drop (34 + m) out) (wrote ∙ ap₂ (outputAfter e) made-is lent-is) size
 
-      module _ (out₃ out₄ : List ℕ) (k : ℕ) (tag : drop 34 out₃ ≡ tagged kind (given .engine) (drop 34 back))
+      module _ (m : Tag) (out₃ out₄ : List ℕ) (steps k : ℕ) (took : m ≡ macOf (given .engine))
+          (tag : drop 34 out₃ ≡ tagged kind m (drop 34 back)) (ran : steps ≡ stepsNow (given .engine))
           (count : k ≡ shownBy kind (h .third))
-          (head : out₄ ≡ answerHead (given .reply) (macOf (given .engine) .readable) (stepsNow (given .engine)) k ++ drop 34 out₃) where
+          (head : out₄ ≡ answerHead (given .reply) (m .readable) steps k ++ drop 34 out₃) where
         pub answer-is : (given .engine ≡ step e (callIn h runs) .engine)
             × (out₄ ≡ answerOf e (callIn h runs) ++ drop (34 + shownLength h) out)
         unfolding called
         answer-is =
-            let l = length-lent in
+            let l : length (lentRun kind h runs) ≡ lentBy kind (h .third) = length-copied ∙ size in
             let engine : given .engine ≡ step e listed .engine =
             ap (λ (x : Called). x .engine) said ∙ ap (λ (c : Call). step e c .engine) made-is in
             let reply : given .reply ≡ replyOf (step e listed .outcome) =
             ap (λ (x : Called). x .reply) said ∙ ap (λ (c : Call). replyOf (step e c .outcome)) made-is in
             let shown-is : drop 34 out₃ ≡ shown e listed ++ drop (34 + shownBy kind (h .third)) out =
-            tag ∙ ap₂ (tagged kind) engine behind
+            tag ∙ ap₂ (tagged kind) (took ∙ ap macOf engine) behind
             ∙ shows e (h .number) (firstRun h runs) (secondRun h runs) (thirdRun h runs) (lentRun kind h runs) out (h .third) kind l in
             let counted : k ≡ shownCount listed =
             count ∙ shows-count e (h .number) (firstRun h runs) (secondRun h runs) (thirdRun h runs) (lentRun kind h runs) out (h .third) kind l in
+            let written : out₄ ≡ answerHead (given .reply) (macOf (given .engine) .readable) (stepsNow (given .engine)) (shownCount listed) ++ drop 34 out₃ =
+            rw (took, ran, counted) at head in
             let whole =
             answer-whole e listed (given .reply) (given .engine) out₄ (drop 34 out₃) (drop (34 + shownBy kind (h .third)) out)
-            reply engine (rw counted at head) shown-is in (
+            reply engine written shown-is in (
               engine ∙ ap (λ (c : Call). step e c .engine) listed-is,
-              whole ∙ ap₂ (λ (c : Call) (m : ℕ). answerOf e c ++ drop (34 + m) out) listed-is (sym shown-length),
+              whole
+                  ∙ ap₂ (λ (c : Call) (j : ℕ). answerOf e c ++ drop (34 + j) out) listed-is
+                  (sym (shown-length h runs out fits room kind is n size)),
             )
-          where
-            length-lent : length (lentRun kind h runs) ≡ lentBy kind (h .third)
-            length-lent = ap length (sym copied-is) ∙ length-copied ∙ size

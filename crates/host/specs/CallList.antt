@@ -6,6 +6,7 @@ use lib.ListN.{length, take, drop, getD}
 use lib.Dec.{ltb, leb, eqb}
 use Rattle.tc_aead_cipher.specs.declared.phase.Direction.the-variants.{Encrypt, Decrypt}
 use Rattle.tc_sparkle_aead.specs.declared.engine.SparkleEngine.{SparkleEngine}
+use Rattle.tc_sparkle_aead.specs.declared.message.Mac.{Mac}
 use Rattle.tc_sparkle_aead.specs.Engine.{newEngine}
 use Rattle.tc_sparkle_aead.specs.Calls.{macOf}
 use Rattle.tc_aead_cipher.specs.declared.call.CallKind.{CallKind}
@@ -120,16 +121,20 @@ lentBy CallKind.Mac third = 0
 lentBy CallKind.Update third = 0
 lentBy CallKind.Output third = 0
 
--- What stands behind the head of an answer, `behind`, once the tag of an engine is written there, where it is asked for.
-abbrev pub tagged : CallKind → SparkleEngine → (behind : List ℕ) → List ℕ
-tagged (CallKind.Init d) e behind = behind
-tagged CallKind.Aad e behind = behind
-tagged CallKind.Data e behind = behind
-tagged CallKind.Final e behind = behind
-tagged CallKind.Reset e behind = behind
-tagged CallKind.Mac e behind = macOf e .bytes ++ drop 32 behind
-tagged CallKind.Update e behind = behind
-tagged CallKind.Output e behind = behind
+-- The part of the third run that is lent as an output.
+abbrev pub lentRun : CallKind → Head → List ℕ → List ℕ
+lentRun kind h runs = take (lentBy kind (h .third)) (drop (h .first + h .second) runs)
+
+-- What stands behind the head of an answer, `behind`, once a tag's array is written there, where it is asked for.
+abbrev pub tagged : CallKind → Mac → (behind : List ℕ) → List ℕ
+tagged (CallKind.Init d) m behind = behind
+tagged CallKind.Aad m behind = behind
+tagged CallKind.Data m behind = behind
+tagged CallKind.Final m behind = behind
+tagged CallKind.Reset m behind = behind
+tagged CallKind.Mac m behind = m .bytes ++ drop 32 behind
+tagged CallKind.Update m behind = behind
+tagged CallKind.Output m behind = behind
 
 unfoldable pub flag : Bool → ℕ
 flag b = cond b 1 0

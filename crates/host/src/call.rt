@@ -4,15 +4,16 @@ ghost use mathlib.Core.List.{_++_};
 ghost use Prim.Native.Nat.{_+_, _≤_};
 ghost use lib.ListN.{length, drop};
 ghost use lib.Dec.{leb};
-ghost use Rattle.tc_sparkle_aead.specs.Calls.{macOf, stepsNow};
+ghost use lib.Seq.{paste};
 ghost use Rattle.tc_sparkle_aead.specs.Sheet.{step};
-ghost use Rattle.host.specs.CallList.{headOf, readOf, kindAt, callIn, shownBy, shownLength, lentBy, tagged, flag, answerHead, answerOf};
+ghost use Rattle.host.specs.CallList.{headOf, readOf, kindAt, callIn, shownBy, shownLength, lentBy, lentRun, tagged, flag, answerHead, answerOf};
 use super::bytes;
 use tc_aead_cipher::call::CallKind;
 use tc_aead_cipher::phase::Direction;
 use tc_aead_cipher::reply::Reply;
 use tc_sparkle_aead::aead_cipher;
 use tc_sparkle_aead::engine::SparkleEngine;
+use tc_sparkle_aead::message::Mac;
 
 // The head of a call: its kind, its number, and the lengths of its three runs of bytes.
 pub struct Head {
@@ -75,7 +76,7 @@ pub(crate) fn read_call(rest: &[u8]) -> Read
     }
 }
 
-// The kind of call that a number means; 9 and above, an output_len.
+// The kind of call that a number means; any number but 1 to 8, an output_len.
 fn kind_at(n: u8) -> CallKind
     ensures { λ r. ⌜ r ≡ kindAt n ⌝ }
 {
@@ -130,23 +131,34 @@ fn lent_len(kind: CallKind, third: usize) -> usize
     }
 }
 
-fn readable(e: SparkleEngine) -> u8
-    ensures { λ r. ⌜ r ≡ flag (macOf e .readable) ⌝ }
+// Writes what a call is lent as an output behind the head of its answer.
+fn put_lent(h: Head, runs: &[u8], out: &mut [u8])
+    requires { ⌜ (h .first + h .second + h .third ≤ length (now runs)) × (34 + shownLength h ≤ length (now out)) ⌝ }
+    ensures { λ _. ⌜ now (out .exit) ≡ paste (now (out .entry)) 34 (lentRun (kindAt (h .kind)) h (now (runs .entry))) (lentBy (kindAt (h .kind)) (h .third)) ⌝ }
 {
-    let m = aead_cipher::mac(e);
+    let n = lent_len(kind_at(h.kind), h.third);
+    let from = h.first + h.second;
+    let to = from + n;
+    bytes::put(out, 34, &runs[from..to]);
+}
+
+fn readable(m: Mac) -> u8
+    ensures { λ r. ⌜ r ≡ flag (m .readable) ⌝ }
+{
     if m.readable { 1 } else { 0 }
 }
 
-// The head of an answer; e is the engine after the call, n the length of what stands behind.
-fn put_head(out: &mut [u8], r: Reply, e: SparkleEngine, n: usize)
+// The head of an answer; m and steps are those of the engine after the call, n is the length of what
+// stands behind.
+fn put_head(out: &mut [u8], r: Reply, m: Mac, steps: u64, n: usize)
     requires { ⌜ 34 ≤ length (now out) ⌝ }
-    ensures { λ _. ⌜ now (out .exit) ≡ answerHead r (macOf e .readable) (stepsNow e) n ++ drop 34 (now (out .entry)) ⌝ }
+    ensures { λ _. ⌜ now (out .exit) ≡ answerHead r (m .readable) steps n ++ drop 34 (now (out .entry)) ⌝ }
 {
-    let flags = [r.number, readable(e)];
+    let flags = [r.number, readable(m)];
     bytes::put(out, 0, &flags);
     bytes::put_number(out, 2, r.first as u64);
     bytes::put_number(out, 10, r.second as u64);
-    bytes::put_number(out, 18, aead_cipher::steps(e));
+    bytes::put_number(out, 18, steps);
     bytes::put_number(out, 26, n as u64);
 }
 
@@ -159,13 +171,12 @@ fn put_tag(out: &mut [u8], tag: [u8; 32])
 }
 
 // The same, where the call asks for the tag.
-fn put_asked(kind: CallKind, e: SparkleEngine, out: &mut [u8])
+fn put_asked(kind: CallKind, m: Mac, out: &mut [u8])
     requires { ⌜ 34 + shownBy kind 0 ≤ length (now out) ⌝ }
-    ensures { λ _. ⌜ drop 34 (now (out .exit)) ≡ tagged kind e (drop 34 (now (out .entry))) ⌝ }
+    ensures { λ _. ⌜ drop 34 (now (out .exit)) ≡ tagged kind m (drop 34 (now (out .entry))) ⌝ }
 {
     match kind {
         CallKind::Mac => {
-            let m = aead_cipher::mac(e);
             let tag = m.bytes;
             put_tag(out, tag);
         }
@@ -175,19 +186,19 @@ fn put_asked(kind: CallKind, e: SparkleEngine, out: &mut [u8])
 
 // Makes a call and writes its answer to the front of `out`. What is lent as an output stands behind
 // the head.
-pub(crate) fn answer(mut e: SparkleEngine, h: Head, runs: &[u8], out: &mut [u8]) -> SparkleEngine
+pub(crate) fn answer(e: SparkleEngine, h: Head, runs: &[u8], out: &mut [u8]) -> SparkleEngine
     requires { ⌜ (h .first + h .second + h .third ≤ length (now runs)) × (34 + shownLength h ≤ length (now out)) ⌝ }
     ensures { λ r. ⌜ r ≡ step e (callIn h (now (runs .entry))) .engine ⌝ }
     ensures { λ _. ⌜ now (out .exit) ≡ answerOf e (callIn h (now (runs .entry))) ++ drop (34 + shownLength h) (now (out .entry)) ⌝ }
 {
+    put_lent(h, runs, out);
     let kind = kind_at(h.kind);
+    let shown = shown_by(kind, h.third);
     let n = lent_len(kind, h.third);
     let a = h.first;
     let b = a + h.second;
     let c = b + h.third;
-    let lent = b + n;
     let end = 34 + n;
-    bytes::put(out, 34, &runs[b..lent]);
     let d = dispatch::call(
         e,
         kind,
@@ -199,9 +210,8 @@ pub(crate) fn answer(mut e: SparkleEngine, h: Head, runs: &[u8], out: &mut [u8])
     );
     let r = d.reply;
     let next = d.engine;
-    // stored to the parameter, which costs fewer moves than a second engine
-    e = next;
-    put_asked(kind, e, out);
-    put_head(out, r, e, shown_by(kind, h.third));
-    e
+    let m = aead_cipher::mac(next);
+    put_asked(kind, m, out);
+    put_head(out, r, m, aead_cipher::steps(next), shown);
+    next
 }

@@ -4,6 +4,7 @@ use mathlib.Core.Path.{_≡_, refl}
 use mathlib.Core.Bool.{true, false}
 use mathlib.Core.List.{List, [], _∷_, _++_}
 use Prim.Native.Nat.{ℕ}
+use lib.ListN.{take}
 use Rattle.tc_aead_cipher.specs.declared.variant.SparkleVariant.{SparkleVariant}
 use Rattle.tc_aead_cipher.specs.declared.phase.Direction.{Direction}
 use Rattle.tc_aead_cipher.specs.Call.{Call}
@@ -41,6 +42,12 @@ pub every-call : sheet «Schwaemm256_128» everyCall
     ∷ (row (ok 0) 11 false ∷ (row (ok 16) 11 true ∷ (row (ok 16) 11 true ∷ []))))))))))
 unfolding sheet lines step line init processAadBytes processBytes doFinal macOf stepsNow started refused repeats remember addSteps atPoint beginData dataIn finalEngine sealFinal newEngine noPair noSteps refusedSteps initSteps noMessage noMac readable zeros inArray buffered stream blockCount streamed startPoint absorbHeader headerSteps afterHeader withoutHeader lastSteps finalPoint startCheck aadCheck dataCheck updateLen endCheck totalLen ready held same reset resetSteps updateOutputLen outputLen
 every-call = refl
+
+-- The engine after the first six calls of document 01's list: 51 steps, and a tag that can be read.
+pub worked-run : (stepsNow (run «Schwaemm128_128» (take 6 worked)) ≡ 51)
+    × (macOf (run «Schwaemm128_128» (take 6 worked)) .readable ≡ true)
+unfolding run runFrom step init processAadBytes processBytes doFinal macOf stepsNow started refused repeats remember addSteps atPoint beginData dataIn finalEngine sealFinal newEngine noPair noSteps refusedSteps initSteps noMessage noMac readable zeros inArray buffered stream blockCount streamed startPoint absorbHeader headerSteps afterHeader withoutHeader lastSteps finalPoint startCheck aadCheck dataCheck updateLen endCheck totalLen ready held same
+worked-run = (refl, refl)
 
 -- A list in two parts: the second runs on the engine that the first leaves.
 lines-cut : (e : SparkleEngine) (xs ys : List Call) → lines e (xs ++ ys) ≡ lines e xs ++ lines (runFrom e xs) ys

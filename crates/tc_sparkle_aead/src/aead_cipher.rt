@@ -2,8 +2,10 @@
 // value and comes back by value. Each contract is an equation with a definition for the reply, the
 // engine and the lent output, for every engine value.
 ghost use mathlib.Core.Path.{_≡_};
+ghost use lib.ListN.{length};
+ghost use Rattle.tc_aead_cipher.specs.declared.aead_error.AeadResult.the-variants.{Ok};
 ghost use Rattle.tc_sparkle_aead.specs.Engine.{updateOutputLen, outputLen};
-ghost use Rattle.tc_sparkle_aead.specs.Calls.{init, processAadBytes, processBytes, processBytesOut, doFinal, doFinalOut, reset, macOf, stepsNow};
+ghost use Rattle.tc_sparkle_aead.specs.Calls.{init, processAadBytes, dataAnswer, processBytes, processBytesOut, doFinal, doFinalOut, reset, macOf, stepsNow};
 use super::engine;
 use super::engine::Done;
 use super::engine::SparkleEngine;
@@ -67,8 +69,30 @@ pub fn process_aad_bytes(e: SparkleEngine, input: &[u8]) -> Done
     }
 }
 
-// Seals or opens the input that is ready and holds back the rest.
-pub fn process_bytes(mut e: SparkleEngine, input: &[u8], output: &mut [u8]) -> Done
+// An accepted data call. In a function of its own: the compiler would make one exit of this and of the
+// refusal (docs/PERFORMANCE.md).
+fn crypt_bytes(mut e: SparkleEngine, n: usize, input: &[u8], output: &mut [u8]) -> Done
+    requires { ⌜ dataAnswer e (length (now input)) (length (now output)) ≡ Ok n ⌝ }
+    ensures { λ r. ⌜ r ≡ processBytes e (now (input .entry)) (now (output .entry)) ⌝ }
+    ensures { λ _. ⌜ now (output .exit) ≡ processBytesOut e (now (input .entry)) (now (output .entry)) ⌝ }
+{
+    let variant = e.variant;
+    let at = e.current;
+    let phase = at.phase;
+    let data_point = message::begin_data(variant, at);
+    let done = message::data_in(variant, data_point, input, output);
+    let s = e.steps;
+    let steps = engine::add_steps(s, message::begin_steps(variant, phase));
+    e.steps = steps;
+    Done {
+        answer: AeadResult::Ok(n),
+        engine: engine::at_point(e, done.point, done.steps),
+    }
+}
+
+// Seals or opens the input that is ready and holds back the rest. A refused call leaves engine and
+// output as they were.
+pub fn process_bytes(e: SparkleEngine, input: &[u8], output: &mut [u8]) -> Done
     ensures { λ r. ⌜ r ≡ processBytes e (now (input .entry)) (now (output .entry)) ⌝ }
     ensures { λ _. ⌜ now (output .exit) ≡ processBytesOut e (now (input .entry)) (now (output .entry)) ⌝ }
 {
@@ -76,17 +100,12 @@ pub fn process_bytes(mut e: SparkleEngine, input: &[u8], output: &mut [u8]) -> D
     let at = e.current;
     let phase = at.phase;
     let answer = checks::data_check(variant, phase, at.held, input.len(), output.len());
-    let AeadResult::Ok(_) = answer else {
-        return Done { answer, engine: e };
-    };
-    let data_point = message::begin_data(variant, at);
-    let done = message::data_in(variant, data_point, input, output);
-    let s = e.steps;
-    let steps = engine::add_steps(s, message::begin_steps(variant, phase));
-    e.steps = steps;
-    Done {
-        answer,
-        engine: engine::at_point(e, done.point, done.steps),
+    match answer {
+        AeadResult::Ok(n) => crypt_bytes(e, n, input, output),
+        AeadResult::Err(x) => Done {
+            answer: AeadResult::Err(x),
+            engine: e,
+        },
     }
 }
 

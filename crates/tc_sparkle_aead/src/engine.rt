@@ -4,7 +4,7 @@ ghost use mathlib.Core.Path.{_≡_};
 ghost use Rattle.tc_aead_cipher.specs.Variant.{paramsOf};
 ghost use Prim.Native.Nat.{_≤_};
 ghost use lib.ListN.{length};
-ghost use Rattle.tc_sparkle_aead.specs.Engine.{newEngine, noPair, repeats, remember};
+ghost use Rattle.tc_sparkle_aead.specs.Engine.{newEngine, noPair, noSteps, repeats, remember};
 ghost use Rattle.tc_sparkle_aead.specs.Calls.{addSteps, atPoint, refused, started, answered, finish};
 use super::bytes;
 use super::message;
@@ -52,6 +52,15 @@ pub struct Started {
     pub engine: SparkleEngine,
 }
 
+fn no_steps() -> Steps
+    ensures { λ r. ⌜ r ≡ noSteps ⌝ }
+{
+    Steps {
+        current: 0,
+        initial: 0,
+    }
+}
+
 // A new engine: no message, no pair, no tag, no steps.
 pub fn new(variant: SparkleVariant) -> SparkleEngine
     ensures { λ r. ⌜ r ≡ newEngine variant ⌝ }
@@ -67,10 +76,7 @@ pub fn new(variant: SparkleVariant) -> SparkleEngine
             nonce: [0; 32],
         },
         mac: message::no_mac(),
-        steps: Steps {
-            current: 0,
-            initial: 0,
-        },
+        steps: no_steps(),
     }
 }
 
@@ -160,10 +166,7 @@ pub(crate) fn refused(mut e: SparkleEngine) -> SparkleEngine
 {
     let none = message::no_message();
     let mac = message::no_mac();
-    let steps = Steps {
-        current: 0,
-        initial: 0,
-    };
+    let steps = no_steps();
     e.current = none;
     e.initial = none;
     e.mac = mac;
@@ -218,11 +221,11 @@ pub(crate) fn finish(
     let point = message::final_point(d);
     let mac = end.mac;
     let s = e.steps;
-    let begun_steps = add_steps(s, first);
-    let steps = add_steps(begun_steps, end.steps);
+    let before_end = add_steps(s, first);
+    let after_end = add_steps(before_end, end.steps);
     e.current = point;
     e.mac = mac;
-    e.steps = steps;
+    e.steps = after_end;
     if mac.readable {
         return Done { answer, engine: e };
     }

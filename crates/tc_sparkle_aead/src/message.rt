@@ -17,12 +17,13 @@ use tc_aead_cipher::phase::Phase;
 use tc_aead_cipher::variant::SparkleVariant;
 
 // A point of a message: the phase, the state's words, the bytes that are held and how many they are.
-// Words and bytes beyond the state's and the held ones are 0.
+// Words and bytes beyond the state's and the held ones are 0. `held` stands before the arrays:
+// call lists take less code and fewer moves so (docs/PERFORMANCE.md).
 pub struct Point {
     pub(crate) phase: Phase,
+    pub(crate) held: usize,
     pub(crate) words: [u32; 16],
     pub(crate) buffer: [u8; 64],
-    pub(crate) held: usize,
 }
 
 // A tag and whether it can be read (the Rust's `Option<[u8; 32]>`).

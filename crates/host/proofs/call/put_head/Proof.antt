@@ -1,8 +1,4 @@
 -- The head of an answer, number by number.
-use mathlib.Core.Path.{ap, _∙_}
-use Prim.Native.Nat.{ℕ}
-use lib.Seq.{paste}
-use Rattle.host.specs.Bytes.{number}
 use Rattle.host.proofs.AnswerLaws.{head-written}
 use borrow.Author.Needs.{needs}
 use Rattle.host.proofs.call.put_head.Statement.{statement}
@@ -23,9 +19,6 @@ put-number-requires c κs = search needs
 put-number-requires-2 : tie.Need-put-number-requires-2
 put-number-requires-2 c κs = search needs
 
-steps-requires : tie.Need-steps-requires
-steps-requires c κs = search needs
-
 put-number-requires-3 : tie.Need-put-number-requires-3
 put-number-requires-3 c κs = search needs
 
@@ -37,24 +30,24 @@ same-length c = search needs
 
 returns : tie.Need-returns
 returns c =
-    let s = c .before .before .before .before .before .before .before .before .before .before .before .before .before .before .before .before .before .before .before .before .before .before .before .before in
+    let s = c .before .before .before .before .before .before .before .before .before .before .before .before .before .before .before .before .before .before .before .before .before .before .before in
     head-written
     (s .args .out .now)
-    (c .before .before .before .before .before .before .before .before .before .before .before .before .before .before .before .before .before .before .before .put .last .0)
-    (c .before .before .before .before .before .before .before .before .before .before .before .before .before .before .before .put-number .last .0)
-    (c .before .before .before .before .before .before .before .before .before .before .before .put-number2 .last .0)
+    (c .before .before .before .before .before .before .before .before .before .before .before .before .before .before .before .before .before .before .put .last .0)
+    (c .before .before .before .before .before .before .before .before .before .before .before .before .before .before .put-number .last .0)
+    (c .before .before .before .before .before .before .before .before .before .before .put-number2 .last .0)
     (c .before .before .before .before .before .before .put-number3 .last .0)
     _
     (s .args .r)
-    (c .before .before .before .before .before .before .before .before .before .before .before .before .before .before .before .before .before .before .before .before .before .before .readable .result)
+    (c .before .before .before .before .before .before .before .before .before .before .before .before .before .before .before .before .before .before .before .before .before .readable .result)
     _
-    _
+    (s .args .steps)
     (s .args .n)
-    (c .before .before .before .before .before .before .before .before .before .before .before .before .before .before .before .before .before .before .before .before .before .before .readable .ensures)
-    (c .before .before .before .before .before .before .before .before .before .before .before .before .before .before .before .before .before .before .before .put .ensures)
-    (c .before .before .before .before .before .before .before .before .before .before .before .before .before .before .before .put-number .ensures)
-    (c .before .before .before .before .before .before .before .before .before .before .before .put-number2 .ensures)
-    (c .before .before .before .before .before .before .put-number3 .ensures ∙ ap (λ (k : ℕ). paste (c .before .before .before .before .before .before .before .before .before .before .before .put-number2 .last .0) 18 (number k) 8) (c .before .before .before .before .before .before .before .steps .ensures))
+    (c .before .before .before .before .before .before .before .before .before .before .before .before .before .before .before .before .before .before .before .before .before .readable .ensures)
+    (c .before .before .before .before .before .before .before .before .before .before .before .before .before .before .before .before .before .before .put .ensures)
+    (c .before .before .before .before .before .before .before .before .before .before .before .before .before .before .put-number .ensures)
+    (c .before .before .before .before .before .before .before .before .before .before .put-number2 .ensures)
+    (c .before .before .before .before .before .before .put-number3 .ensures)
     (c .before .before .put-number4 .ensures)
 
 pub put-head-spec : {M : Type 1} → statement M
@@ -66,7 +59,6 @@ put-head-spec =
     put-requires
     put-number-requires
     put-number-requires-2
-    steps-requires
     put-number-requires-3
     put-number-requires-4
     same-length
