@@ -1,4 +1,4 @@
--- Every line and every title fits the array.
+-- Every line, every title and every refusal fits the array.
 use mathlib.Core.Path.{_≡_, refl, ap}
 use mathlib.Core.Bool.{Bool, true, false}
 use mathlib.Core.List.{List, [], _∷_}
@@ -13,8 +13,10 @@ use Rattle.tc_aead_cipher.specs.declared.reply.Reply.{Reply}
 use Rattle.tc_aead_cipher.specs.declared.variant.SparkleVariant.{SparkleVariant}
 use Rattle.tc_aead_cipher.specs.declared.variant.SparkleVariant.the-variants.{«Schwaemm128_128», «Schwaemm256_128», «Schwaemm192_192», «Schwaemm256_256»}
 use Rattle.tc_aead_cipher.specs.Reply.{outcomeOf, refusalOf}
-use Rattle.sheet_text.specs.Text.{text, decimalIn, decimal, spaced, outcomeText, nameText, flagText, lineText, titleText}
-use Rattle.sheet_text.proofs.TextNumbers.{decimal-length}
+use Rattle.forms.specs.Bytes.{text}
+use Rattle.forms.specs.Decimal.{decimalIn, decimal}
+use Rattle.forms.proofs.DecimalLaws.{decimal-length}
+use Rattle.sheet_text.specs.Text.{spaced, outcomeText, nameText, flagText, refusalText, lineText, titleText}
 
 name-length : (kind : CallKind) → length (nameText kind) ≤ 6
 name-length (Init d) = omega arith
@@ -58,6 +60,10 @@ module _ (r : Reply) (number : r .number < 256) (first : r .first < 2 ^ 64) (sec
   outcome-length true e = rw e (omega (arith, length-append (decimal (r .first)) (text ")"), word (r .first) first))
   outcome-length false e =
       rw e (omega (arith, length-append (spaced (refusalOf r)) (text ")"), values-length (r .values)))
+
+  pub refusal-fits : length (refusalText (refusalOf r)) ≤ 128
+  unfolding refusalText
+  refusal-fits = omega (arith, length-append (spaced (refusalOf r)) (text ")\n"), values-length (r .values))
 
   -- A line of every kind of call, reply, count and flag fits.
   pub line-fits : (kind : CallKind) (steps : ℕ) (b : Bool) → steps < 2 ^ 64

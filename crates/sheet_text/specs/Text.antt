@@ -1,12 +1,11 @@
 -- The texts of document 01's sheet ("Worked by hand", the block at its end): a line and the title, as bytes.
-use Prim.Native.Nat.{ℕ, zero, suc, _+_, _/_, _%_, min}
-use Prim.Native.Char.{code}
-use Prim.Native.String.{String, [] as none, _∷_ as _then_}
+use Prim.Native.Nat.{ℕ, min}
 use mathlib.Core.Path.{_≡_}
 use mathlib.Core.Bool.{Bool, true, false}
 use mathlib.Core.List.{List, [], _∷_, _++_}
-use lib.Dec.{ltb}
 use lib.ListN.{length}
+use Rattle.forms.specs.Bytes.{text}
+use Rattle.forms.specs.Decimal.{decimal}
 use Rattle.tc_aead_cipher.specs.declared.call.CallKind.{CallKind}
 use Rattle.tc_aead_cipher.specs.declared.call.CallKind.the-variants.{Init, Aad, Data, Final, Reset, Mac, Update, Output}
 use Rattle.tc_aead_cipher.specs.declared.variant.SparkleVariant.{SparkleVariant}
@@ -17,22 +16,6 @@ use Rattle.tc_aead_cipher.specs.Outcome.{Outcome}
 use Rattle.tc_sparkle_aead.specs.Sheet.{Line, sheet}
 use Rattle.tc_aead_cipher.specs.Outcome.Outcome.{ok, no}
 use Rattle.sheet_text.specs.declared.text.Text.{Text}
-
--- The bytes of a text of ASCII characters.
-abbrev pub text : String → List ℕ
-text none = []
-text (c then s) = code c ∷ text s
-
-abbrev pub digit : ℕ → List ℕ
-digit d = (code "0" + d) ∷ []
-
--- n in decimal digits, no zero in front; k, which is not below n, bounds how often n is divided.
-unfoldable pub decimalIn : ℕ → ℕ → List ℕ
-decimalIn zero n = digit n
-decimalIn (suc k) n = elim (ltb n 10) [ true ↦ digit n | false ↦ decimalIn k (n / 10) ++ digit (n % 10) ]
-
-abbrev pub decimal : ℕ → List ℕ
-decimal n = decimalIn n n
 
 -- Numbers, a blank before each.
 abbrev pub spaced : List ℕ → List ℕ
@@ -58,6 +41,10 @@ nameText Output = text "output"
 abbrev pub flagText : Bool → List ℕ
 flagText true = text "1"
 flagText false = text "0"
+
+-- A refusal that stands alone: `(no 12 3)`.
+unfoldable pub refusalText : List ℕ → List ℕ
+refusalText vs = text "(no" ++ spaced vs ++ text ")\n"
 
 -- A line: `(final (no 4 17 16) (work 41) (tag 0))`.
 unfoldable pub lineText : CallKind → Line → List ℕ

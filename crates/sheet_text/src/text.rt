@@ -3,7 +3,9 @@ ghost use mathlib.Core.Path.{_≡_};
 ghost use mathlib.Core.List.{[], _∷_, _++_};
 ghost use Prim.Native.Nat.{_+_, _<_};
 ghost use Rattle.tc_aead_cipher.specs.Reply.{outcomeOf, refusalOf};
-ghost use Rattle.sheet_text.specs.Text.{Adds, cut, textOf, text, decimal, spaced, outcomeText, nameText, flagText, lineText, titleText};
+ghost use Rattle.forms.specs.Bytes.{text};
+ghost use Rattle.forms.specs.Decimal.{decimal};
+ghost use Rattle.sheet_text.specs.Text.{Adds, cut, textOf, spaced, outcomeText, nameText, flagText, refusalText, lineText, titleText};
 use tc_aead_cipher::call::CallKind;
 use tc_aead_cipher::reply::Reply;
 use tc_aead_cipher::variant::SparkleVariant;
@@ -14,7 +16,8 @@ pub struct Text {
     pub len: usize,
 }
 
-fn empty() -> Text
+// No text.
+pub fn empty() -> Text
     ensures { λ r. ⌜ r ≡ cut [] ⌝ }
 {
     Text {
@@ -122,6 +125,14 @@ fn put_outcome(t: Text, reply: Reply) -> Text
     }
     let refused = put_refusal(append(t, b"(no"), reply);
     append(refused, b")")
+}
+
+// A line that is a refusal alone.
+pub fn refusal(reply: Reply) -> Text
+    ensures { λ r. ⌜ r ≡ textOf (refusalText (refusalOf reply)) ⌝ }
+{
+    let refused = put_refusal(append(empty(), b"(no"), reply);
+    append(refused, b")\n")
 }
 
 // A line of a sheet: the call, its answer, the steps, and whether a tag can be read.

@@ -1,4 +1,4 @@
--- Document 01's numbers and values of the eleven refusals.
+-- The numbers and values of the refusals: document 01's eleven, and those that document 02 adds.
 use Prim.Native.Nat.{ℕ}
 use mathlib.Core.List.{List, [], _∷_}
 use Rattle.tc_aead_cipher.specs.declared.aead_error.AeadError.{AeadError}
@@ -21,3 +21,7 @@ initRefusal (InvalidKeyLength actual) = 1 ∷ (actual ∷ [])
 initRefusal (InvalidNonceLength actual) = 2 ∷ (actual ∷ [])
 initRefusal (InvalidMacSize actual) = 3 ∷ (actual ∷ [])
 initRefusal NonceReuse = 11 ∷ []
+
+-- Document 02, 2026-01: a call list that is too long (line 0), or the first of its lines that is wrong.
+abbrev pub lineRefusal : (line : ℕ) → List ℕ
+lineRefusal line = 12 ∷ (line ∷ [])

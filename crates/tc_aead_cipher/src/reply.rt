@@ -1,7 +1,7 @@
 // An answer of the engine as numbers: what a sheet's line has of it, and what crosses to the host.
 ghost use mathlib.Core.Path.{_≡_};
 ghost use mathlib.Core.List.{[], _∷_};
-ghost use Rattle.tc_aead_cipher.specs.Refusals.{refusal, initRefusal};
+ghost use Rattle.tc_aead_cipher.specs.Refusals.{refusal, initRefusal, lineRefusal};
 ghost use Rattle.tc_aead_cipher.specs.Outcome.{outcome, startOutcome};
 ghost use Rattle.tc_aead_cipher.specs.Outcome.Outcome.{ok, no};
 ghost use Rattle.tc_aead_cipher.specs.Reply.{replyOf};
@@ -86,6 +86,13 @@ pub fn init_refusal(x: AeadInitError) -> Reply
         AeadInitError::InvalidMacSize { actual } => one_value(3, actual),
         AeadInitError::NonceReuse => no_value(11),
     }
+}
+
+// The refusal of a call list as text, at a line (document 02, 2026-01).
+pub fn line_refusal(line: usize) -> Reply
+    ensures { λ r. ⌜ r ≡ replyOf (no (lineRefusal line)) ⌝ }
+{
+    one_value(12, line)
 }
 
 // The answer of a call on a message, or of a length query.

@@ -4,7 +4,7 @@ use native.Mathlib.Omega.{arith}
 use borrow.Fn.Kinds.{In}
 use borrow.Fn.PlainCycle.{Measures, is, falls, and}
 use Rattle.sheet_text.proofs.TextArray.{_⨾_}
-use Rattle.sheet_text.proofs.TextNumbers.{decimal-small, decimal-large}
+use Rattle.forms.proofs.DecimalLaws.{decimal-small, decimal-large}
 use Rattle.sheet_text.proofs.text.put_number.Reads as put-number
 use Rattle.sheet_text.proofs.text.put_number.Kinds as put-number-kinds
 use Rattle.sheet_text.proofs.text.+put_number.Lts-put_number as put-number-lts

@@ -3,7 +3,7 @@ use mathlib.Core.List.{[], _∷_, append-nil}
 use borrow.Author.Needs.{needs}
 use native.Mathlib.Omega.{arith}
 use lib.Seq.{take-all}
-use Rattle.sheet_text.specs.Text.{decimal}
+use Rattle.forms.specs.Decimal.{decimal}
 use Rattle.sheet_text.proofs.TextArray.{_⨾_}
 use Rattle.sheet_text.proofs.text.put_refusal.Statement.{statement}
 use Rattle.sheet_text.proofs.text.put_refusal.Tie as tie
