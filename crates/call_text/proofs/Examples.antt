@@ -1,6 +1,6 @@
 -- Document 02's lines (2026-01) and two files, by what is written and printed: the words of the forms, which argument
 -- stands where, the numbers of lines, and the name that a call has in its sheet.
-use mathlib.Core.Path.{_≡_, refl, _∙_}
+use mathlib.Core.Path.{_≡_, refl}
 use mathlib.Core.List.{List, [], _∷_, _++_}
 use mathlib.Core.Logic.{inl}
 use mathlib.Core.Option.{none}
@@ -17,7 +17,7 @@ use Rattle.tc_aead_cipher.specs.declared.variant.SparkleVariant.the-variants.{�
 use Rattle.tc_aead_cipher.specs.Call.{Call}
 use Rattle.tc_sparkle_aead.specs.Message.{zeros}
 use Rattle.tc_sparkle_aead.specs.Worked.{everyCall}
-use Rattle.sheet_text.proofs.TextSheet.{every-text}
+use Rattle.sheet_text.specs.Text.{sheetText}
 use Rattle.call_text.specs.CallText.{variantText, callText, Within, AllWithin, listText, Written}
 use Rattle.call_text.specs.Line.{isForm, itemAt, numberIn, isMark, fits, start, failed, pastByte, pastField, compare, compareAll, fieldsOf, placed, foundAs, foundAmong, foundIn, variantFound}
 use Rattle.call_text.specs.List.{linesOf, checkCalls, checkFile, readAs, readFile}
@@ -78,28 +78,18 @@ every-within =
     (AllWithin.more _ _ (Within.of-final (replicate 16 0) (record { at-most = omega arith; of-zeros = refl }))
     (AllWithin.more _ _ Within.of-mac AllWithin.none))))))))))
 
-every-written : Written «Schwaemm256_128» everyCall everyFile
+-- The file is the list of these calls.
+pub every-written : Written «Schwaemm256_128» everyCall everyFile
 unfolding listText variantText callText decimalIn
 every-written = record { file-size = omega arith; in-limits = every-within; file-text = inl refl }
 
-pub every-printed : printed everyFile
-    ≡ text "(sheet (variant 2))\n"
-    ++ text "(init (no 3 15) (work 0) (tag 0))\n"
-    ++ text "(mac (ok 0) (work 0) (tag 0))\n"
-    ++ text "(init (ok 0) (work 11) (tag 0))\n"
-    ++ text "(data (ok 0) (work 22) (tag 0))\n"
-    ++ text "(update (ok 32) (work 22) (tag 0))\n"
-    ++ text "(output (ok 33) (work 22) (tag 0))\n"
-    ++ text "(reset (ok 0) (work 11) (tag 0))\n"
-    ++ text "(aad (ok 0) (work 11) (tag 0))\n"
-    ++ text "(init (ok 0) (work 11) (tag 0))\n"
-    ++ text "(final (ok 16) (work 11) (tag 1))\n"
-    ++ text "(mac (ok 16) (work 11) (tag 1))\n"
-every-printed = printed-list everyFile «Schwaemm256_128» everyCall every-written ∙ every-text
+-- Its sheet is printed; `every-text` of crates/sheet_text has it in full.
+pub every-printed : printed everyFile ≡ sheetText «Schwaemm256_128» everyCall
+every-printed = printed-list everyFile «Schwaemm256_128» everyCall every-written
 
 -- ---- Refused files
 
--- The third line has a blank too many; the second is a variant's; the last line is empty; there is no byte.
+-- The third line has a blank too many; the second is a variant's; the first is a call's; the last is empty; there is no byte.
 pub refused-files : (readFile (text "(variant 1)\n(mac)\n(mac )\n(mac)\n") ≡ refused 3)
     × (readFile (text "(variant 1)\n(variant 1)\n") ≡ refused 2)
     × (readFile (text "(mac)\n") ≡ refused 1)

@@ -283,7 +283,7 @@ module _ (s : List ℕ) where
   OneFound kinds = (kind : CallKind) × (foundAs s kind .found ≡ true) × (foundAmong s kinds ≡ foundAs s kind)
 
   found-among : (kinds : List CallKind) → foundAmong s kinds .found ≡ true → OneFound kinds
-  unfolding foundAmong placed failed
+  unfolding foundAmong
   found-among [] h = absurd (false≢true h)
   found-among (kind ∷ kinds) h = go (found-among kinds) (foundAs s kind .found) refl
     where

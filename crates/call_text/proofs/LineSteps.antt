@@ -14,11 +14,10 @@ use Rattle.forms.specs.Bytes.{front}
 use Rattle.call_text.specs.declared.line.Fields.{Fields}
 use Rattle.call_text.specs.declared.line.Found.{Found}
 use Rattle.tc_aead_cipher.specs.declared.call.CallKind.{CallKind}
-use Rattle.tc_aead_cipher.specs.declared.call.CallKind.the-variants.{Mac}
 use Rattle.call_text.specs.declared.line.FoundVariant.{FoundVariant}
 use Rattle.tc_aead_cipher.specs.declared.variant.SparkleVariant.{SparkleVariant}
 use Rattle.tc_aead_cipher.specs.Variant.{isVariant, variantOf}
-use Rattle.call_text.specs.Line.{variantShape, variantFound, numberIn, isForm, itemAt, isMark, fits, start, failed, pastByte, pastField, compare, compareAll, fieldsOf, withoutRuns, placed, foundAs, foundAmong, foundIn, allKinds}
+use Rattle.call_text.specs.Line.{variantShape, variantFound, numberIn, isForm, itemAt, isMark, fits, start, failed, pastByte, pastField, compare, compareAll, fieldsOf, notFound, foundAs, foundAmong, foundIn, allKinds}
 
 -- An item ends where the line does.
 pub item-length : (s : List ℕ) (at : ℕ) → length (itemAt s at) ≤ length s - at
@@ -103,8 +102,8 @@ unfolding fieldsOf
 fields-short s f shape e h = rw (e, ne-eqb (f .at) (length s) h) refl
 
 -- A line that is no form, and one that is: a kind whose shape it has, or one of those behind.
-pub no-form : (s : List ℕ) → isForm s ≡ false → withoutRuns false Mac 0 (length s) ≡ foundIn s
-unfolding foundIn placed failed
+pub no-form : (s : List ℕ) → isForm s ≡ false → notFound s ≡ foundIn s
+unfolding foundIn
 no-form s e = rw e refl
 
 pub one-form : (s : List ℕ) → isForm s ≡ true → foundAmong s allKinds ≡ foundIn s
@@ -121,8 +120,8 @@ pub found-later : (s : List ℕ) (kind : CallKind) (kinds : List CallKind) (f : 
 unfolding foundAmong
 found-later s kind kinds f e h = rw (← e, h) refl
 
-pub found-none : (s : List ℕ) → withoutRuns false Mac 0 (length s) ≡ foundAmong s []
-unfolding foundAmong placed failed
+pub found-none : (s : List ℕ) → notFound s ≡ foundAmong s []
+unfolding foundAmong
 found-none s = refl
 
 -- The variant's line, from its parts.

@@ -35,7 +35,7 @@ use Rattle.call_text.specs.declared.list.Checked.{Checked}
 use Rattle.call_text.specs.declared.list.Checked.the-variants.{Accepted, Refused}
 use Rattle.call_text.specs.declared.run.Run.{Run}
 use Rattle.call_text.specs.declared.run.Shown.{Shown}
-use Rattle.call_text.specs.Line.{itemAt, placed, foundAs, foundAmong, allKinds, isForm, foundIn, failed, start, callFound, variantFound}
+use Rattle.call_text.specs.Line.{itemAt, placed, foundAs, foundAmong, allKinds, isForm, foundIn, callFound, variantFound}
 use Rattle.call_text.specs.List.{checkFile}
 use Rattle.call_text.specs.Run.{lineAt, lineEnd, begun, beginOf, stopped, answered, nextOf}
 use Rattle.call_text.proofs.LineBound.{step-reply}
@@ -100,7 +100,7 @@ placed-room s Output f h = omega arith
 among-room : (s : List ℕ) (kinds : List CallKind) → foundAmong s kinds .found ≡ true
     → foundAmong s kinds .room ≤ 32768
 unfolding foundAmong foundAs
-among-room s [] h = placed-room s Mac (failed start) h
+among-room s [] h = omega arith
 among-room s (kind ∷ kinds) h = go (among-room s kinds) (foundAs s kind .found) refl
   where
     go : (foundAmong s kinds .found ≡ true → foundAmong s kinds .room ≤ 32768) → (t : Bool) → foundAs s kind .found ≡ t
@@ -115,7 +115,7 @@ found-room s h = go (isForm s) refl
   where
     go : (t : Bool) → isForm s ≡ t → foundIn s .room ≤ 32768
     go true e = rw e (among-room s allKinds (rw e at h))
-    go false e = rw e (placed-room s Mac (failed start) (rw e at h))
+    go false e = rw e (omega arith)
 
 kind-kept : (kind : CallKind) (n : ℕ) (first second third out : List ℕ)
     → kindOf (callOf kind n first second third out) ≡ kind

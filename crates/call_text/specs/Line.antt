@@ -98,6 +98,9 @@ abbrev pub withoutRuns : Bool → CallKind → ℕ → ℕ → Found
 withoutRuns found kind number end =
     record { found = found; kind = kind; number = number; first = end; second = end; third = end; room = 0 }
 
+abbrev pub notFound : List ℕ → Found
+notFound s = withoutRuns false Mac 0 (length s)
+
 -- A call of a kind, from where its shape's fields begin. A run of bytes that it does not have begins at the line's end.
 unfoldable pub placed : List ℕ → CallKind → Fields → Found
 placed s (Init d) f =
@@ -144,7 +147,7 @@ foundAs s kind = placed s kind (fieldsOf (shapeOf kind) s)
 
 -- The first kind of a list whose shape the line has.
 unfoldable pub foundAmong : List ℕ → List CallKind → Found
-foundAmong s [] = placed s Mac (failed start)
+foundAmong s [] = notFound s
 foundAmong s (kind ∷ kinds) = cond (foundAs s kind .found) (foundAs s kind) (foundAmong s kinds)
 
 abbrev pub allKinds : List CallKind
@@ -152,7 +155,7 @@ allKinds =
     Init Encrypt ∷ (Init Decrypt ∷ (Aad ∷ (Data ∷ (Final ∷ (Update ∷ (Output ∷ (Mac ∷ (Reset ∷ []))))))))
 
 unfoldable pub foundIn : List ℕ → Found
-foundIn s = cond (isForm s) (foundAmong s allKinds) (placed s Mac (failed start))
+foundIn s = cond (isForm s) (foundAmong s allKinds) (notFound s)
 
 -- The call that was found.
 unfoldable pub callFound : List ℕ → Found → Call

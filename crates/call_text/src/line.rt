@@ -332,8 +332,8 @@ pub(crate) fn found_in(s: &[u8]) -> Found
     none
 }
 
-// The number where it is at most 4; else 0, which no variant has.
-fn small(n: usize) -> u8
+// A variant's number as a byte; 0, which no variant has, for a number above 4.
+fn variant_byte(n: usize) -> u8
     ensures { λ r. ⌜ (isVariant r ≡ isVariant n) × (variantOf r ≡ variantOf n) ⌝ }
 {
     if n <= 4 { n as u8 } else { 0 }
@@ -344,7 +344,7 @@ pub(crate) fn variant_in(s: &[u8]) -> FoundVariant
     ensures { λ r. ⌜ r ≡ variantFound (now (s .entry)) ⌝ }
 {
     let f = read_shape(b"(variant %)", s);
-    let k = small(number_in(item_at(s, f.d)));
+    let k = variant_byte(number_in(item_at(s, f.d)));
     FoundVariant {
         found: both(is_form(s), both(f.agree, variant::is_variant(k))),
         variant: variant::variant_of(k),

@@ -1,7 +1,7 @@
 //! Benchmark of the program `calls` (document 02, 2026-01) on files of 65,536
 //! bytes, beside `schwaemm_run` on the same calls in bytes:
 //!
-//!     cargo run --release -p measure --bin calls -- [--rounds N]
+//!     cargo run --release -p measure --bin calls
 //!
 //! Program and function take turns in each round, and a number is the median of
 //! the rounds. The program's time runs from its start to its end; it reads a file
@@ -20,7 +20,7 @@ use call_text::program;
 use call_text::reader::read;
 use call_text::writer::sheet_of;
 
-/// Rounds, where `--rounds` does not say.
+/// Rounds.
 const ROUNDS: usize = 21;
 
 /// How many of the long files are measured.
@@ -90,25 +90,12 @@ fn median(times: &[Duration]) -> f64 {
     (low + high).as_secs_f64() * 500.0
 }
 
-fn rounds() -> Result<usize, String> {
-    let arguments: Vec<String> = std::env::args().skip(1).collect();
-    match arguments.as_slice() {
-        [] => Ok(ROUNDS),
-        [option, number] if option == "--rounds" => match number.parse() {
-            Ok(rounds) if rounds > 0 => Ok(rounds),
-            _ => Err(format!("not a number of rounds: {number}")),
-        },
-        _ => Err("usage: calls [--rounds N]".to_string()),
-    }
-}
-
 fn benchmark() -> Result<(), String> {
-    let rounds = rounds()?;
     let mut entries = vec![Entry::new("the variant alone", "(variant 1)\n")?];
     for (name, text) in of_each_call().iter().take(FILES) {
         entries.push(Entry::new(name, text)?);
     }
-    for _ in 0..rounds {
+    for _ in 0..ROUNDS {
         for entry in &mut entries {
             entry.round().map_err(|e| e.to_string())?;
         }
@@ -116,7 +103,7 @@ fn benchmark() -> Result<(), String> {
     if cfg!(debug_assertions) {
         println!("A debug build: these numbers say nothing about speed.\n");
     }
-    println!("Milliseconds, median of {rounds} rounds. All answers are equal.\n");
+    println!("Milliseconds, median of {ROUNDS} rounds. All answers are equal.\n");
     println!("| file of | calls | program | schwaemm_run | ratio |");
     println!("|---|---:|---:|---:|---:|");
     for entry in &entries {

@@ -14,7 +14,7 @@ returns c =
     let n = k .before in
     let item = n .before in
     variant-parts _ _ _ _ _ _ _ _ _ _ (item .before .read-shape .ensures) (item .item-at .ensures) (n .number-in .ensures)
-    (k .small .ensures) (form .is-form .ensures) (known .is-variant .ensures) (inner .both .ensures) (outer .both2 .ensures)
+    (k .variant-byte .ensures) (form .is-form .ensures) (known .is-variant .ensures) (inner .both .ensures) (outer .both2 .ensures)
     (c .variant-of .ensures)
 
 pub variant-in-spec : {M : Type 1} → statement M
