@@ -16,15 +16,15 @@ use Rattle.tc_aead_cipher.specs.Outcome.Outcome.{no}
 use Rattle.tc_sparkle_aead.specs.declared.engine.SparkleEngine.{SparkleEngine}
 use Rattle.tc_sparkle_aead.specs.Sheet.{step}
 use Rattle.sheet_text.specs.Text.{nameText, titleText, sheetText}
-use Rattle.call_text.specs.CallText.{variantText, callText, newline, Within, Written, WrongLine}
+use Rattle.call_text.specs.CallText.{variantText, callText, newline, Within, Written, WrongLine, Each, IsLine, EndsFull, joined, Worded}
 use Rattle.call_text.specs.Line.{readCall, readVariant}
-use Rattle.call_text.specs.List.{linesOf, FileRead, readFile}
+use Rattle.call_text.specs.List.{linesOf, FileRead, readFile, FileCase}
 use Rattle.call_text.specs.List.FileRead.{list, refused}
-use Rattle.call_text.specs.Run.{beginOf, bytesOf, printed}
+use Rattle.call_text.specs.Run.{beginOf, bytesOf, printed, Writes}
 use Rattle.call_text.proofs.LineLaws.{read-exactly, variant-exactly}
-use Rattle.call_text.proofs.LinesLaws.{Each, IsLine, EndsFull, joined, lines-exactly}
-use Rattle.call_text.proofs.FileLaws.{FileCase, file-accepted, file-too-long, file-wrong, file-case, written-once}
-use Rattle.call_text.proofs.RunLaws.{printed-list, printed-refusal, Writes, loop-printed, nothing-runs}
+use Rattle.call_text.proofs.LinesLaws.{lines-exactly}
+use Rattle.call_text.proofs.FileLaws.{file-accepted, file-too-long, file-wrong, file-case, written-once}
+use Rattle.call_text.proofs.RunLaws.{printed-list, printed-refusal, loop-printed, nothing-runs}
 use Rattle.call_text.proofs.TwelveAlone.{twelve-alone}
 
 cancel : (s t : List ℕ) → s ++ text ")\n" ≡ t ++ text ")\n" → s ≡ t
@@ -114,12 +114,7 @@ pub sheet-printed : (file : List ℕ) (v : SparkleVariant) (calls : List Call) �
     → printed file ≡ sheetText v calls
 sheet-printed = printed-list
 
--- "each call named by its form's word": behind its bracket a call's line has the name that its sheet's line has, and
--- behind that a blank or a closing bracket.
-pub data Worded (name : List ℕ) : List ℕ → Type 0 where
-  items : (s : List ℕ) → Worded name (text "(" ++ name ++ text " " ++ s)
-  alone : Worded name (text "(" ++ name ++ text ")")
-
+-- "each call named by its form's word"
 pub word-of-a-call : (c : Call) → Worded (nameText (kindOf c)) (callText c)
 unfolding callText
 word-of-a-call (Call.Init d key nonce size header) = Worded.items _

@@ -20,11 +20,11 @@ use Rattle.tc_aead_cipher.specs.Variant.{number}
 use Rattle.tc_aead_cipher.specs.Call.{Call}
 use Rattle.call_text.specs.declared.list.Checked.{Checked}
 use Rattle.call_text.specs.declared.list.Checked.the-variants.{Accepted, Refused}
-use Rattle.call_text.specs.CallText.{variantText, callText, Within, AllWithin, newline, callsText, listText, Written, IsVariant, IsCall, WrongCall, WrongLine}
+use Rattle.call_text.specs.CallText.{variantText, callText, Within, AllWithin, newline, callsText, listText, Written, IsVariant, IsCall, WrongCall, WrongLine, Each, IsLine, EndsFull, joined}
 use Rattle.call_text.specs.Line.{foundIn, callFound, readCall, variantFound, readVariant}
-use Rattle.call_text.specs.List.{linesOf, checkCalls, checkLines, checkFile, callsOf, FileRead, variantIn, behindFirst, readAs, readFile}
+use Rattle.call_text.specs.List.{linesOf, checkCalls, checkLines, checkFile, callsOf, FileRead, variantIn, behindFirst, readAs, readFile, FileCase}
 use Rattle.call_text.specs.List.FileRead.{list, refused}
-use Rattle.call_text.proofs.LinesLaws.{Each, IsLine, Some, EndsFull, some-full, joined, lines-joined, lines-open, lines-back}
+use Rattle.call_text.proofs.LinesLaws.{Some, some-full, lines-joined, lines-open, lines-back}
 use Rattle.call_text.proofs.LineLaws.{read-exactly, variant-exactly}
 
 -- A call's text is one line, and not empty.
@@ -204,12 +204,6 @@ wrong-within _ _ WrongLine.no-line = omega arith
 wrong-within _ _ (WrongLine.no-variant l ls f) = omega arith
 wrong-within _ _ (WrongLine.no-call n l ls is w) = omega (arith, wrong-call-within n ls w)
 
--- The three cases of a file.
-pub data FileCase (file : List ℕ) : Type 0 where
-  written : (v : SparkleVariant) (calls : List Call) → Written v calls file → FileCase file
-  long : 65536 < length file → FileCase file
-  wrong : (k : ℕ) → length file ≤ 65536 → WrongLine (suc k) (linesOf file) → FileCase file
-
 -- A line is found to be a call exactly where it is one.
 pub call-found : (c : Call) → Within c
     → (foundIn (callText c) .found ≡ true) × (callFound (callText c) (foundIn (callText c)) ≡ c)
@@ -381,9 +375,9 @@ pub file-case : (file : List ℕ) → FileCase file
 file-case file = go (readFile file) refl
   where
     go : (r : FileRead) → readFile file ≡ r → FileCase file
-    go (list v calls) e = FileCase.written v calls (file-accepted file v calls .0 e)
-    go (refused zero) e = FileCase.long (file-too-long file .0 e)
-    go (refused (suc k)) e = let w = file-wrong file k .0 e in FileCase.wrong k (w .0) (w .1)
+    go (list v calls) e = FileCase.of-list v calls (file-accepted file v calls .0 e)
+    go (refused zero) e = FileCase.of-length (file-too-long file .0 e)
+    go (refused (suc k)) e = let w = file-wrong file k .0 e in FileCase.of-line k (w .0) (w .1)
 
 pub written-once : (file : List ℕ) (v u : SparkleVariant) (calls more : List Call) → Written v calls file
     → Written u more file → (v ≡ u) × (calls ≡ more)

@@ -11,26 +11,15 @@ use lib.Dec.{eqb}
 use lib.ListN.{length, take, drop, length-append}
 use lib.Seq.{take-append-seam}
 use Rattle.forms.specs.declared.bytes.ByteKind.the-variants.{Line}
-use Rattle.forms.specs.Bytes.{isKind, all, front}
+use Rattle.forms.specs.Bytes.{isKind, front}
 use Rattle.forms.proofs.BytesLaws.{all-cons}
-use Rattle.call_text.specs.CallText.{newline}
+use Rattle.call_text.specs.CallText.{newline, Each, IsLine, EndsFull, joined}
+use Rattle.call_text.specs.CallText.Each.{none, more}
 use Rattle.call_text.specs.List.{inFront, linesOf}
 
--- What holds of each line.
-pub data Each (P : List ℕ → Type 0) : List (List ℕ) → Type 0 where
-  none : Each P []
-  more : {l : List ℕ} {ls : List (List ℕ)} → P l → Each P ls → Each P (l ∷ ls)
-
--- No newline stands in a line.
-abbrev pub IsLine : List ℕ → Type 0
-IsLine l = all Line l ≡ true
-
+-- A line that is not empty.
 abbrev pub Some : List ℕ → Type 0
 Some l = 0 < length l
-
--- The last line is not empty.
-abbrev pub EndsFull : List (List ℕ) → Type 0
-EndsFull ls = (front : List (List ℕ)) → ls ≡ front ++ ([] ∷ []) → ⊥
 
 pub some-full : (ls : List (List ℕ)) → Each Some ls → EndsFull ls
 some-full ls some front e = go front (subst (Each Some) e some)
@@ -38,11 +27,6 @@ some-full ls some front e = go front (subst (Each Some) e some)
     go : (front : List (List ℕ)) → Each Some (front ++ ([] ∷ [])) → ⊥
     go [] (more h others) = omega arith
     go (l ∷ front) (more h others) = go front others
-
--- Each line and its newline.
-abbrev pub joined : List (List ℕ) → List ℕ
-joined [] = []
-joined (l ∷ ls) = l ++ newline ++ joined ls
 
 abbrev Steps : List ℕ → Type 0
 Steps s = linesOf s ≡ take (front Line s) s ∷ linesOf (drop (suc (front Line s)) s)

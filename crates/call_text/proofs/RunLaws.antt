@@ -26,7 +26,7 @@ use Rattle.call_text.specs.CallText.{variantText, callText, Within, AllW
 use Rattle.call_text.specs.List.{linesOf, checkFile, readFile}
 use Rattle.call_text.specs.List.FileRead.{refused}
 use Rattle.call_text.specs.Line.{foundIn}
-use Rattle.call_text.specs.Run.{lineAt, lineEnd, begun, beginOf, stopped, answered, nextOf, bytesOf, printedFrom, printed}
+use Rattle.call_text.specs.Run.{lineAt, lineEnd, begun, beginOf, stopped, answered, nextOf, bytesOf, printedFrom, printed, Writes}
 use Rattle.call_text.proofs.LinesLaws.{lines-step, lines-none, lines-count}
 use Rattle.call_text.proofs.FileLaws.{written-lines, written-accepted, refused-check, wrong-within, call-found, variant-found, file-wrong}
 use Rattle.call_text.proofs.LineBound.{Counted, counted-new, line-whole}
@@ -137,13 +137,6 @@ printed-list file v calls w =
     (ap₂ _++_ (text-whole (titleText v) (title-fits v)) (rest (omega arith)))
 
 -- ---- A loop over the steps
-
--- What a loop over the steps writes, with no bound: nothing at the file's end, and else a step's text and what it
--- writes from the run behind it.
-pub data Writes (file : List ℕ) : Run → List ℕ → Type 0 where
-  done : (r : Run) → length file ≤ r .at → Writes file r []
-  turn : (r : Run) (s : List ℕ) → r .at < length file → Writes file (nextOf file r .run) s
-      → Writes file r (bytesOf (nextOf file r .text) ++ s)
 
 next-further : (file : List ℕ) (r : Run) → r .at < length file → r .at < nextOf file r .run .at
 unfolding nextOf stopped answered

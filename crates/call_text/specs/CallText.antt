@@ -5,7 +5,8 @@ use mathlib.Core.Bool.{true}
 use mathlib.Core.List.{List, [], _∷_, _++_}
 use mathlib.Core.Logic.{_⊎_}
 use lib.ListN.{length}
-use Rattle.forms.specs.Bytes.{text}
+use Rattle.forms.specs.declared.bytes.ByteKind.the-variants.{Line}
+use Rattle.forms.specs.Bytes.{text, all}
 use Rattle.forms.specs.Decimal.{decimal}
 use Rattle.forms.specs.Hex.{hex, areBytes}
 use Rattle.tc_aead_cipher.specs.declared.phase.Direction.{Direction}
@@ -101,3 +102,28 @@ pub data WrongLine : (number : ℕ) → List (List ℕ) → Type 0 where
   no-line : WrongLine 1 []
   no-variant : (l : List ℕ) (ls : List (List ℕ)) → (IsVariant l → ⊥) → WrongLine 1 (l ∷ ls)
   no-call : (n : ℕ) (l : List ℕ) (ls : List (List ℕ)) → IsVariant l → WrongCall n ls → WrongLine (2 + n) (l ∷ ls)
+
+-- ---- Lines
+
+-- What holds of each line.
+pub data Each (P : List ℕ → Type 0) : List (List ℕ) → Type 0 where
+  none : Each P []
+  more : {l : List ℕ} {ls : List (List ℕ)} → P l → Each P ls → Each P (l ∷ ls)
+
+-- No newline stands in a line.
+abbrev pub IsLine : List ℕ → Type 0
+IsLine l = all Line l ≡ true
+
+-- The last line is not empty.
+abbrev pub EndsFull : List (List ℕ) → Type 0
+EndsFull ls = (front : List (List ℕ)) → ls ≡ front ++ ([] ∷ []) → ⊥
+
+-- Each line and its newline.
+abbrev pub joined : List (List ℕ) → List ℕ
+joined [] = []
+joined (l ∷ ls) = l ++ newline ++ joined ls
+
+-- A line with a name behind its bracket, and behind that a blank or a closing bracket.
+pub data Worded (name : List ℕ) : List ℕ → Type 0 where
+  items : (s : List ℕ) → Worded name (text "(" ++ name ++ text " " ++ s)
+  alone : Worded name (text "(" ++ name ++ text ")")

@@ -1,5 +1,5 @@
 -- A file of lines: accepted, or refused at a line (document 02, 2026-01).
-use Prim.Native.Nat.{ℕ, suc}
+use Prim.Native.Nat.{ℕ, suc, _≤_, _<_}
 use Prim.Native.Char.{code}
 use mathlib.Core.Bool.{cond}
 use mathlib.Core.List.{List, [], _∷_}
@@ -10,6 +10,7 @@ use Rattle.tc_aead_cipher.specs.declared.variant.SparkleVariant.{SparkleVariant
 use Rattle.tc_aead_cipher.specs.Call.{Call}
 use Rattle.call_text.specs.declared.list.Checked.{Checked}
 use Rattle.call_text.specs.declared.list.Checked.the-variants.{Accepted, Refused}
+use Rattle.call_text.specs.CallText.{Written, WrongLine}
 use Rattle.call_text.specs.Line.{foundIn, variantFound, readCall}
 
 -- A byte in front of the first line.
@@ -60,3 +61,9 @@ readAs ls (Refused k) = refused k
 
 unfoldable pub readFile : List ℕ → FileRead
 readFile file = readAs (linesOf file) (checkFile file)
+
+-- The three cases of a file.
+pub data FileCase (file : List ℕ) : Type 0 where
+  of-list : (v : SparkleVariant) (calls : List Call) → Written v calls file → FileCase file
+  of-length : 65536 < length file → FileCase file
+  of-line : (k : ℕ) → length file ≤ 65536 → WrongLine (suc k) (linesOf file) → FileCase file

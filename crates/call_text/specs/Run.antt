@@ -1,5 +1,5 @@
 -- The run of a file's calls, line of the sheet after line (document 02, 2026-01), and all that is printed.
-use Prim.Native.Nat.{ℕ, zero, suc, _+_, min}
+use Prim.Native.Nat.{ℕ, zero, suc, _+_, _≤_, _<_, min}
 use mathlib.Core.Bool.{cond}
 use mathlib.Core.List.{List, [], _++_}
 use lib.Dec.{ltb}
@@ -72,3 +72,10 @@ printedFrom (suc k) file r =
 
 unfoldable pub printed : List ℕ → List ℕ
 printed file = bytesOf (beginOf file .text) ++ printedFrom (length file) file (beginOf file .run)
+
+-- What a loop over the steps writes, with no bound: nothing at the file's end, and else a step's text and what it
+-- writes from the run behind it.
+pub data Writes (file : List ℕ) : Run → List ℕ → Type 0 where
+  done : (r : Run) → length file ≤ r .at → Writes file r []
+  turn : (r : Run) (s : List ℕ) → r .at < length file → Writes file (nextOf file r .run) s
+      → Writes file r (bytesOf (nextOf file r .text) ++ s)
