@@ -1,2 +1,2 @@
--- The texts that the contracts of a sheet's title and lines cite.
+-- The texts that the contracts of a sheet's title, its lines and a refusal cite.
 pub mod Text
