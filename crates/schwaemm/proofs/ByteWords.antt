@@ -9,9 +9,10 @@ use lib.Dec.{lit<}
 use lib.Bits.{bitXor, xor-shr, xor-mod}
 use lib.ListN.{length, take, drop, getD}
 use lib.Seq.{take-nil, drop-nil}
+use Rattle.sparkle.specs.Words.{Words, Bytes}
+use Rattle.sparkle.specs.Words.Below.{none, more}
 use Rattle.sparkle.specs.Sparkle.{xors}
-use Rattle.sparkle.proofs.Below.{Words, Bytes, below-xors}
-use Rattle.sparkle.proofs.Below.Below.{none, more}
+use Rattle.sparkle.proofs.Below.{below-xors}
 use Rattle.schwaemm.specs.Bytes.{toWords, toBytes}
 
 pub length-toBytes : (w : List ℕ) → length (toBytes w) ≡ length w * 4

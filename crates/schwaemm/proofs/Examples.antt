@@ -1,9 +1,17 @@
--- The specification at its edges: which variant repeats capacity words, and what an empty message leaves.
+-- The specification at its edges: the first step of the permutation, which variant repeats capacity words, and what an
+-- empty message leaves.
 use mathlib.Core.Path.{_≡_, refl}
 use mathlib.Core.List.{List, [], _∷_}
-use Prim.Native.Nat.{ℕ}
+use Prim.Native.Nat.{ℕ, _+_, _/_}
+use Rattle.sparkle.specs.Sparkle.{run, state, sparkle}
 use Rattle.schwaemm.specs.Bytes.{ifEmpty}
-use Rattle.schwaemm.specs.Schwaemm.{Params, whitening, message, schwaemm128-128, schwaemm256-128, schwaemm192-192, schwaemm256-256}
+use Rattle.schwaemm.specs.Schwaemm.{Params, permute, whitening, message, schwaemm128-128, schwaemm256-128, schwaemm192-192, schwaemm256-256}
+
+-- The cipher's permutation starts at step 0 (document 02, 2026-02).
+pub permute-from-step-0 : (p : Params) (k : ℕ) (s : List ℕ)
+    → permute p k s ≡ run ((p .rate + p .key) / 8) 0 k (state ((p .rate + p .key) / 8) s)
+unfolding permute sparkle
+permute-from-step-0 p k s = refl
 
 -- Only variant 2, whose rate is longer than its capacity, repeats its four capacity words.
 module _ (a b c d : ℕ) where

@@ -12,9 +12,10 @@ use lib.Pow.{pow-lt, shl-lt}
 use lib.Bits.{bitXor, xor-lt}
 use lib.ListN.{length, take, getD, replicate, length-append, length-take, length-drop, length-set, length-replicate, replicate-append-replicate}
 use lib.Seq.{take-at}
+use Rattle.sparkle.specs.Words.{Below, Words, Bytes}
 use Rattle.sparkle.specs.Sparkle.{xors, state}
 use Rattle.sparkle.proofs.Lengths.{length-sparkle, length-xors}
-use Rattle.sparkle.proofs.Below.{Below, Words, Bytes, below-at, below-set, below-take, below-drop, below-append, below-xors, below-replicate}
+use Rattle.sparkle.proofs.Below.{below-at, below-set, below-take, below-drop, below-append, below-xors, below-replicate}
 use Rattle.sparkle.proofs.Bounds.{words-sparkle, state-of-words}
 use Rattle.schwaemm.specs.Bytes.{toWords, ifEmpty}
 use Rattle.schwaemm.specs.Schwaemm.{Params, Sizes, outer, inner, permute, feistelSwap, rho1, whitening, mix, crypt, padded, domain, withDomain, lastV, mixLast, initialise, absorbBlock, absorb, prepared, messageBlock, message}
@@ -36,7 +37,7 @@ mix-mixed p k s block = refl
 module _ (p : Params) where
   pub words-permute : (k : ℕ) (s : List ℕ) → Words (permute p k s)
   unfolding permute
-  words-permute k s = words-sparkle ((p .rate + p .key) / 8) k s
+  words-permute k s = words-sparkle ((p .rate + p .key) / 8) 0 k s
 
 -- Lengths.
 module _ (p : Params) (h : Sizes p) where
@@ -45,7 +46,7 @@ module _ (p : Params) (h : Sizes p) where
 
   pub length-permute : (k : ℕ) (s : List ℕ) → length (permute p k s) ≡ stateLength p
   unfolding permute
-  length-permute k s = length-sparkle ((p .rate + p .key) / 8) k s ∙ branches
+  length-permute k s = length-sparkle ((p .rate + p .key) / 8) 0 k s ∙ branches
 
   pub length-mix : (k : ℕ) (s block : List ℕ) → length (mix p k s block) ≡ stateLength p
   unfolding mix

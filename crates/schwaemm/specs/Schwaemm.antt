@@ -50,9 +50,9 @@ outer p s = take (p .rate / 4) s
 unfoldable pub inner : Params → List ℕ → List ℕ
 inner p s = drop (p .rate / 4) s
 
--- The permutation on a state, of (rate + key) / 8 branches.
+-- The permutation on a state, of (rate + key) / 8 branches, from step 0.
 unfoldable pub permute : Params → ℕ → List ℕ → List ℕ
-permute p steps s = sparkle ((p .rate + p .key) / 8) steps s
+permute p steps s = sparkle ((p .rate + p .key) / 8) 0 steps s
 
 -- The feedback, on words of the rate: FeistelSwap gives the right half, then the right half xored with the left one.
 unfoldable pub feistelSwap : Params → List ℕ → List ℕ

@@ -7,7 +7,8 @@ use denote.Array.{each}
 use denote.Plain.{UInt}
 use denote.Shadow.{shadow}
 use borrow.Author.Needs.{elem-fits}
-use Rattle.sparkle.proofs.Below.{Words, below-of}
+use Rattle.sparkle.specs.Words.{Words}
+use Rattle.sparkle.proofs.Below.{below-of}
 
 pub array-words : (w : List ℕ) (us : List Val) → shadow (each ℕ (UInt w32 .own) w us) → Words w
 array-words w us p = below-of w (λ i. elem-fits w32 w32 w us i p tt .fits)

@@ -1,20 +1,11 @@
--- Lists of numbers below 2^k, and what keeps them so. Words are below 2^32, bytes below 2^8.
+-- What keeps the numbers of a list below 2^k.
 use mathlib.Core.List.{List, [], _∷_, _++_}
 use Prim.Native.Nat.{ℕ, zero, suc, _^_, _<_}
 use lib.Pow.{pow-pos}
 use lib.Bits.{xor-lt}
 use lib.ListN.{take, drop, getD, set, replicate}
+use Rattle.sparkle.specs.Words.{Below}
 use Rattle.sparkle.specs.Sparkle.{xors}
-
-pub data Below (k : ℕ) : List ℕ → Type 0 where
-  none : Below k []
-  more : {x : ℕ} {l : List ℕ} → x < 2 ^ k → Below k l → Below k (x ∷ l)
-
-abbrev pub Words : List ℕ → Type 0
-Words l = Below 32 l
-
-abbrev pub Bytes : List ℕ → Type 0
-Bytes l = Below 8 l
 
 pub below-of : {k : ℕ} (l : List ℕ) → ((i : ℕ) → getD l i 0 < 2 ^ k) → Below k l
 below-of [] h = Below.none

@@ -8,12 +8,12 @@ use lib.Dec.{lit<, lit≤}
 use lib.Bits.{bitXor, xor-lt}
 use lib.ListN.{length, take, drop, replicate, drop-of-length-le}
 use lib.Seq.{take-append-le, take-all, length-take-le}
-use Rattle.sparkle.specs.Words.{addw, rotr, ell}
+use Rattle.sparkle.specs.Words.{Words, addw, rotr, ell}
+use Rattle.sparkle.specs.Words.Below.{none, more}
 use Rattle.sparkle.specs.declared.scalar.Branch.{Branch}
 use Rattle.sparkle.specs.Sparkle.{rcon, quarter, arxBox, constants, boxes, xorXs, xorYs, xorEach, feistel, linear, step, run, state, sparkle, sparkleIn}
 use Rattle.sparkle.proofs.Rotate.{rotr-lt}
-use Rattle.sparkle.proofs.Below.{Words, below-at, below-append, below-take, below-drop, below-set, below-xors}
-use Rattle.sparkle.proofs.Below.Below.{none, more}
+use Rattle.sparkle.proofs.Below.{below-at, below-append, below-take, below-drop, below-set, below-xors}
 
 xor-word : {x y : ℕ} → x < 2 ^ 32 → y < 2 ^ 32 → bitXor x y < 2 ^ 32
 xor-word {x} {y} hx hy = xor-lt 32 x y hx hy
@@ -106,9 +106,9 @@ pub words-state : (b : ℕ) (w : List ℕ) → Words (state b w)
 unfolding state
 words-state b w = words-mod (take (b + b) (w ++ replicate (b + b) 0))
 
-pub words-sparkle : (b k : ℕ) (w : List ℕ) → Words (sparkle b k w)
+pub words-sparkle : (b s k : ℕ) (w : List ℕ) → Words (sparkle b s k w)
 unfolding sparkle
-words-sparkle b k w = words-run b 0 k (words-state b w)
+words-sparkle b s k w = words-run b s k (words-state b w)
 
 mod-words : {w : List ℕ} → Words w → map (λ x. x % 2 ^ 32) w ≡ w
 mod-words none = refl
@@ -122,16 +122,16 @@ state-of-words b w h hs =
     ∙ mod-words hs
 
 -- the permutation on an array, from a run on its first words
-pub sparkle-in : (b k : ℕ) (w v : List ℕ) → b + b ≤ length w → Words w → v ≡ run b 0 k (take (b + b) w) → v ++ drop (b + b) w ≡ sparkleIn b k w
+pub sparkle-in : (b s k : ℕ) (w v : List ℕ) → b + b ≤ length w → Words w → v ≡ run b s k (take (b + b) w) → v ++ drop (b + b) w ≡ sparkleIn b s k w
 unfolding sparkle sparkleIn
-sparkle-in b k w v h hs e =
+sparkle-in b s k w v h hs e =
     ap (λ (l : List ℕ). l ++ drop (b + b) w)
-    (e ∙ ap (run b 0 k) (sym (state-of-words b (take (b + b) w) (length-take-le (b + b) w h) (below-take (b + b) hs))))
+    (e ∙ ap (run b s k) (sym (state-of-words b (take (b + b) w) (length-take-le (b + b) w h) (below-take (b + b) hs))))
 
 -- the same where the array is the state
-pub sparkle-whole : (b k : ℕ) (w : List ℕ) → length w ≡ b + b → Words w → run b 0 k w ≡ sparkleIn b k w
-sparkle-whole b k w h hs =
+pub sparkle-whole : (b s k : ℕ) (w : List ℕ) → length w ≡ b + b → Words w → run b s k w ≡ sparkleIn b s k w
+sparkle-whole b s k w h hs =
     let short : length w ≤ b + b = omega arith in
-    sym (append-nil (run b 0 k w))
-    ∙ ap (λ (l : List ℕ). run b 0 k w ++ l) (sym (drop-of-length-le w short))
-    ∙ sparkle-in b k w (run b 0 k w) (omega arith) hs (ap (run b 0 k) (sym (take-all (b + b) w short)))
+    sym (append-nil (run b s k w))
+    ∙ ap (λ (l : List ℕ). run b s k w ++ l) (sym (drop-of-length-le w short))
+    ∙ sparkle-in b s k w (run b s k w) (omega arith) hs (ap (run b s k) (sym (take-all (b + b) w short)))

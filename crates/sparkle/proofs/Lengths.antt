@@ -1,10 +1,12 @@
 -- The lengths of the permutation's parts. The permutation of b branches gives b + b words, whatever it is given.
 use mathlib.Core.Path.{_≡_, refl, ap, _∙_}
 use mathlib.Core.List.{List, [], _∷_, _++_}
-use Prim.Native.Nat.{ℕ, zero, suc, _+_, _%_, _^_, min}
+use Prim.Native.Nat.{ℕ, zero, suc, _+_, _%_, _^_, _≤_, min}
 use native.Mathlib.Omega.{arith}
 use lib.ListN.{length, take, replicate, length-append, length-take, length-drop, length-set, length-replicate, length-map}
-use Rattle.sparkle.specs.Sparkle.{constants, boxes, xors, xorEach, feistel, linear, step, run, state, sparkle}
+use Rattle.sparkle.specs.Sparkle.{constants, boxes, xors, xorEach, feistel, linear, step, run, state, sparkle, branches}
+use Rattle.sparkle.specs.declared.scalar.StateWords.{StateWords}
+use Rattle.sparkle.specs.declared.scalar.StateWords.the-variants.{Words8, Words12, Words16}
 
 pub length-constants : (s : ℕ) (w : List ℕ) → length (constants s w) ≡ length w
 unfolding constants
@@ -53,6 +55,12 @@ length-state b w =
     length-map (take (b + b) (w ++ replicate (b + b) 0)) (λ x. x % 2 ^ 32)
     ∙ simp (length-take, length-append, length-replicate) (omega arith)
 
-pub length-sparkle : (b k : ℕ) (w : List ℕ) → length (sparkle b k w) ≡ b + b
+pub length-sparkle : (b s k : ℕ) (w : List ℕ) → length (sparkle b s k w) ≡ b + b
 unfolding sparkle
-length-sparkle b k w = length-run b 0 k (state b w) (length-state b w)
+length-sparkle b s k w = length-run b s k (state b w) (length-state b w)
+
+-- an array of 16 words holds a state of each size
+pub state-in-16 : (size : StateWords) → branches size + branches size ≤ 16
+state-in-16 Words8 = omega arith
+state-in-16 Words12 = omega arith
+state-in-16 Words16 = omega arith

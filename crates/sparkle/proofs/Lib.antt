@@ -9,3 +9,4 @@ pub mod Runs
 pub mod Arrays
 pub mod LaneLaws
 pub mod WorkedExamples
+pub mod Claims

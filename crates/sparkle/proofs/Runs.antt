@@ -1,4 +1,4 @@
--- Runs of steps: a steps and then b are a + b steps, and only a step's number modulo 2^32 counts.
+-- Runs of steps: i steps and then j are i + j steps, and only a step's number modulo 2^32 counts.
 use mathlib.Core.Path.{_≡_, refl, sym, ap, ap₂, _∙_}
 use mathlib.Core.List.{List}
 use Prim.Native.Nat.{ℕ, zero, suc, _+_, _-_, _%_, _^_, _≤_, _<_}
@@ -6,7 +6,7 @@ use native.Mathlib.Nat.{zero-add, add-zero, suc-add}
 use native.Mathlib.Omega.{arith}
 use Rattle.sparkle.specs.Sparkle.{constants, step, run}
 
--- steps i from s and then steps j from s + i are i + j steps from s
+-- i steps from s and then j steps from s + i are i + j steps from s
 pub run-add : (b s i j : ℕ) (w : List ℕ) → run b s (i + j) w ≡ run b (s + i) j (run b s i w)
 unfolding run
 run-add b s zero j w = ap₂ (λ (n t : ℕ). run b t n w) (zero-add j) (sym (add-zero s))
@@ -41,3 +41,7 @@ pub run-none : (b s k : ℕ) (w : List ℕ) → k ≤ 0 → w ≡ run b s k w
 unfolding run
 run-none b s zero w h = refl
 run-none b s (suc k) w h = absurd (omega arith)
+
+-- the last turn: the step that is left is run
+pub run-last : (b s k : ℕ) (w : List ℕ) → 0 < k → k ≤ 1 → step b s w ≡ run b s k w
+run-last b s k w h last = run-none b _ (k - 1) _ (omega arith) ∙ run-turn b s k w h

@@ -96,13 +96,13 @@ run b s (suc k) w = run b (suc s) k (step b s w)
 unfoldable pub state : ℕ → List ℕ → List ℕ
 state b w = map (λ x. x % 2 ^ 32) (take (b + b) (w ++ replicate (b + b) 0))
 
--- The permutation of b branches with k steps, from step 0.
-unfoldable pub sparkle : ℕ → ℕ → List ℕ → List ℕ
-sparkle b k w = run b 0 k (state b w)
+-- The permutation of b branches with k steps, the first of them step s (document 02, 2026-02).
+unfoldable pub sparkle : ℕ → ℕ → ℕ → List ℕ → List ℕ
+sparkle b s k w = run b s k (state b w)
 
 -- The permutation on an array: the words beyond the state's stay as they are.
-unfoldable pub sparkleIn : ℕ → ℕ → List ℕ → List ℕ
-sparkleIn b k w = sparkle b k (take (b + b) w) ++ drop (b + b) w
+unfoldable pub sparkleIn : ℕ → ℕ → ℕ → List ℕ → List ℕ
+sparkleIn b s k w = sparkle b s k (take (b + b) w) ++ drop (b + b) w
 
 -- The number of branches of a state.
 abbrev pub branches : StateWords → ℕ

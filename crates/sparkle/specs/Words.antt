@@ -1,6 +1,18 @@
--- Operations on 32-bit words, as arithmetic on natural numbers (document 01, "Down to the words").
-use Prim.Native.Nat.{ℕ, _+_, _-_, _*_, _/_, _%_, _^_}
+-- Words and bytes, and operations on 32-bit words as arithmetic on natural numbers (document 01, "Down to the words").
+use Prim.Native.Nat.{ℕ, _+_, _-_, _*_, _/_, _%_, _^_, _<_}
+use mathlib.Core.List.{List, [], _∷_}
 use lib.Bits.{bitXor}
+
+-- A list of numbers below 2^k. Words are below 2^32, bytes below 2^8.
+pub data Below (k : ℕ) : List ℕ → Type 0 where
+  none : Below k []
+  more : {x : ℕ} {l : List ℕ} → x < 2 ^ k → Below k l → Below k (x ∷ l)
+
+abbrev pub Words : List ℕ → Type 0
+Words l = Below 32 l
+
+abbrev pub Bytes : List ℕ → Type 0
+Bytes l = Below 8 l
 
 -- The sum of two words, without its carry out of 32 bits.
 unfoldable pub addw : ℕ → ℕ → ℕ

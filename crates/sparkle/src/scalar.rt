@@ -1,7 +1,7 @@
 // The permutation on 32-bit words one at a time: the Rust's `sparkle_scalar`, `arx_box` and `ell`
 // (engine.rs), by value and written out for each of the three sizes.
 ghost use mathlib.Core.Path.{_≡_};
-ghost use Prim.Native.Nat.{_%_};
+ghost use Prim.Native.Nat.{_+_, _%_, _^_};
 ghost use Rattle.sparkle.specs.Words.{rotr, ell};
 ghost use Rattle.sparkle.specs.Sparkle.{rcon, quarter, arxBox, boxes, linear, step, run, sparkleIn, branches};
 
@@ -70,6 +70,13 @@ pub(crate) fn round_constant(s: u32) -> u32
     }
 }
 
+// The number of the step behind step s: it wraps at 2^32 (document 02, 2026-02).
+pub(crate) fn next_step(s: u32) -> u32
+    ensures { λ r. ⌜ r ≡ (s + 1) % 2 ^ 32 ⌝ }
+{
+    std::num::wrapping_add_u32(s, 1)
+}
+
 // A quarter of the ARX box, with the rotations a and b.
 fn quarter(v: Branch, a: u32, b: u32, rc: u32) -> Branch
     ensures { λ r. ⌜ r ≡ quarter (a % 32) (b % 32) rc v ⌝ }
@@ -126,18 +133,24 @@ fn step8(w: [u32; 8], s: u32) -> [u32; 8]
     linear8(boxes8(v))
 }
 
-// `count` steps from the step `first` on, whose number wraps at 2^32.
+// `count` steps from the step `first` on. The test stands at the end of a turn, here and in the two
+// runs below; docs/PERFORMANCE.md compares this with other shapes.
 fn run8(w: [u32; 8], first: u32, count: u32) -> [u32; 8]
     ensures { λ r. ⌜ r ≡ run 4 first count w ⌝ }
 {
     let mut v = w;
-    let mut s = first;
-    let mut left = count;
-    while 0 < left {
-        let next = step8(v, s);
-        v = next;
-        s = std::num::wrapping_add_u32(s, 1);
-        left -= 1;
+    if 0 < count {
+        let mut s = first;
+        let mut left = count;
+        loop {
+            let next = step8(v, s);
+            v = next;
+            s = next_step(s);
+            left -= 1;
+            if left == 0 {
+                break;
+            }
+        }
     }
     v
 }
@@ -197,18 +210,23 @@ fn step12(w: [u32; 12], s: u32) -> [u32; 12]
     linear12(boxes12(v))
 }
 
-// `count` steps from the step `first` on, whose number wraps at 2^32.
+// `count` steps from the step `first` on.
 fn run12(w: [u32; 12], first: u32, count: u32) -> [u32; 12]
     ensures { λ r. ⌜ r ≡ run 6 first count w ⌝ }
 {
     let mut v = w;
-    let mut s = first;
-    let mut left = count;
-    while 0 < left {
-        let next = step12(v, s);
-        v = next;
-        s = std::num::wrapping_add_u32(s, 1);
-        left -= 1;
+    if 0 < count {
+        let mut s = first;
+        let mut left = count;
+        loop {
+            let next = step12(v, s);
+            v = next;
+            s = next_step(s);
+            left -= 1;
+            if left == 0 {
+                break;
+            }
+        }
     }
     v
 }
@@ -278,27 +296,33 @@ fn step16(w: [u32; 16], s: u32) -> [u32; 16]
     linear16(boxes16(v))
 }
 
-// `count` steps from the step `first` on, whose number wraps at 2^32.
+// `count` steps from the step `first` on.
 fn run16(w: [u32; 16], first: u32, count: u32) -> [u32; 16]
     ensures { λ r. ⌜ r ≡ run 8 first count w ⌝ }
 {
     let mut v = w;
-    let mut s = first;
-    let mut left = count;
-    while 0 < left {
-        let next = step16(v, s);
-        v = next;
-        s = std::num::wrapping_add_u32(s, 1);
-        left -= 1;
+    if 0 < count {
+        let mut s = first;
+        let mut left = count;
+        loop {
+            let next = step16(v, s);
+            v = next;
+            s = next_step(s);
+            left -= 1;
+            if left == 0 {
+                break;
+            }
+        }
     }
     v
 }
 
 // The permutation on the first 8 words of an array.
-fn sparkle8(w: [u32; 16], steps: u32) -> [u32; 16]
-    ensures { λ r. ⌜ r ≡ sparkleIn 4 steps w ⌝ }
+fn sparkle8(w: [u32; 16], first: u32, count: u32) -> [u32; 16]
+    ensures { λ r. ⌜ r ≡ sparkleIn 4 first count w ⌝ }
 {
-    let v = run8([w[0], w[1], w[2], w[3], w[4], w[5], w[6], w[7]], 0, steps);
+    let state = [w[0], w[1], w[2], w[3], w[4], w[5], w[6], w[7]];
+    let v = run8(state, first, count);
     [
         v[0],
         v[1],
@@ -320,27 +344,24 @@ fn sparkle8(w: [u32; 16], steps: u32) -> [u32; 16]
 }
 
 // The permutation on the first 12 words of an array.
-fn sparkle12(w: [u32; 16], steps: u32) -> [u32; 16]
-    ensures { λ r. ⌜ r ≡ sparkleIn 6 steps w ⌝ }
+fn sparkle12(w: [u32; 16], first: u32, count: u32) -> [u32; 16]
+    ensures { λ r. ⌜ r ≡ sparkleIn 6 first count w ⌝ }
 {
-    let v = run12(
-        [
-            w[0],
-            w[1],
-            w[2],
-            w[3],
-            w[4],
-            w[5],
-            w[6],
-            w[7],
-            w[8],
-            w[9],
-            w[10],
-            w[11],
-        ],
-        0,
-        steps,
-    );
+    let state = [
+        w[0],
+        w[1],
+        w[2],
+        w[3],
+        w[4],
+        w[5],
+        w[6],
+        w[7],
+        w[8],
+        w[9],
+        w[10],
+        w[11],
+    ];
+    let v = run12(state, first, count);
     [
         v[0],
         v[1],
@@ -361,13 +382,14 @@ fn sparkle12(w: [u32; 16], steps: u32) -> [u32; 16]
     ]
 }
 
-// The permutation with `steps` steps; the words beyond the state's stay as they are.
-pub fn sparkle_scalar(w: [u32; 16], size: StateWords, steps: u32) -> [u32; 16]
-    ensures { λ r. ⌜ r ≡ sparkleIn (branches size) steps w ⌝ }
+// The permutation with `count` steps from the step `first` on, whose number wraps at 2^32 (document
+// 02, 2026-02); the words beyond the state's stay as they are.
+pub fn sparkle_scalar(w: [u32; 16], size: StateWords, first: u32, count: u32) -> [u32; 16]
+    ensures { λ r. ⌜ r ≡ sparkleIn (branches size) first count w ⌝ }
 {
     match size {
-        StateWords::Words8 => sparkle8(w, steps),
-        StateWords::Words12 => sparkle12(w, steps),
-        StateWords::Words16 => run16(w, 0, steps),
+        StateWords::Words8 => sparkle8(w, first, count),
+        StateWords::Words12 => sparkle12(w, first, count),
+        StateWords::Words16 => run16(w, first, count),
     }
 }

@@ -221,8 +221,8 @@ fn step16(g: Groups, s: u32) -> Groups
     }
 }
 
-// `count` steps from the step `first` on, whose number wraps at 2^32. The test stands at the end of
-// a turn, which keeps the groups in SSE2 registers.
+// `count` steps from the step `first` on. The test stands at the end of a turn, which keeps the groups
+// in SSE2 registers.
 fn run_groups(start: Groups, first: u32, count: u32) -> Groups
     ensures { λ r. ⌜ joined r ≡ run 8 first count (joined start) ⌝ }
 {
@@ -233,7 +233,7 @@ fn run_groups(start: Groups, first: u32, count: u32) -> Groups
         loop {
             let next = step16(g, s);
             g = next;
-            s = std::num::wrapping_add_u32(s, 1);
+            s = scalar::next_step(s);
             left -= 1;
             if left == 0 {
                 break;
@@ -281,9 +281,9 @@ fn join(g: Groups) -> [u32; 16]
     ]
 }
 
-// The permutation of 16 words with `steps` steps.
+// The permutation of 16 words with `steps` steps, from step 0.
 pub fn sparkle_opt16(w: [u32; 16], steps: u32) -> [u32; 16]
-    ensures { λ r. ⌜ r ≡ sparkleIn 8 steps w ⌝ }
+    ensures { λ r. ⌜ r ≡ sparkleIn 8 0 steps w ⌝ }
 {
     join(run_groups(split(w), 0, steps))
 }

@@ -1,2 +1,3 @@
--- The definitions that the contracts of `sparkle_bench` cite.
+-- The definitions that the contracts and the claims of `sparkle_bench` cite.
 pub mod Sizes
+pub mod Run

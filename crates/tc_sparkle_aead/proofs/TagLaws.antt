@@ -12,12 +12,13 @@ use borrow.Author.Needs.{elem-fits}
 use lib.ListN.{length, take, drop, getD, length-take, length-drop, take-append-drop}
 use lib.Seq.{length-take-le, take-at, getD-take, getD-drop, drop-append-le}
 use lib.Bits.{bitXor}
+use Rattle.sparkle.specs.Words.{Bytes}
 use Rattle.sparkle.specs.Sparkle.{xors}
 use Rattle.sparkle.proofs.Lengths.{length-xors}
 use Rattle.schwaemm.specs.Bytes.{toWords, toBytes}
 use Rattle.schwaemm.specs.Schwaemm.{Params, Sizes, inner, tagOf}
 use Rattle.schwaemm.proofs.Xors.{xors-at, xors-enough}
-use Rattle.sparkle.proofs.Below.{Bytes, below-of, below-take}
+use Rattle.sparkle.proofs.Below.{below-of, below-take}
 use Rattle.schwaemm.proofs.ByteWords.{length-toBytes, toBytes-toWords, toBytes-append, toBytes-drop, toBytes-xors}
 use Rattle.schwaemm.proofs.States.{stateLength}
 use Rattle.tc_sparkle_aead.specs.Message.{stateIn}

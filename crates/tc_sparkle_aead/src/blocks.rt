@@ -39,13 +39,13 @@ pub(crate) fn permute(variant: SparkleVariant, words: [u32; 16], steps: u32) -> 
 {
     match variant {
         SparkleVariant::Schwaemm128_128 => {
-            sparkle::scalar::sparkle_scalar(words, StateWords::Words8, steps)
+            sparkle::scalar::sparkle_scalar(words, StateWords::Words8, 0, steps)
         }
         SparkleVariant::Schwaemm256_128 => {
-            sparkle::scalar::sparkle_scalar(words, StateWords::Words12, steps)
+            sparkle::scalar::sparkle_scalar(words, StateWords::Words12, 0, steps)
         }
         SparkleVariant::Schwaemm192_192 => {
-            sparkle::scalar::sparkle_scalar(words, StateWords::Words12, steps)
+            sparkle::scalar::sparkle_scalar(words, StateWords::Words12, 0, steps)
         }
         SparkleVariant::Schwaemm256_256 => sparkle::sse2::sparkle_opt16(words, steps),
     }
@@ -107,6 +107,7 @@ fn mix_words(variant: SparkleVariant, words: [u32; 16], block: [u32; 8], steps: 
             sparkle::scalar::sparkle_scalar(
                 xor_block(variant, words, block, 4, 4),
                 StateWords::Words8,
+                0,
                 steps,
             )
         }
@@ -114,6 +115,7 @@ fn mix_words(variant: SparkleVariant, words: [u32; 16], block: [u32; 8], steps: 
             sparkle::scalar::sparkle_scalar(
                 xor_block(variant, words, block, 8, 4),
                 StateWords::Words12,
+                0,
                 steps,
             )
         }
@@ -121,6 +123,7 @@ fn mix_words(variant: SparkleVariant, words: [u32; 16], block: [u32; 8], steps: 
             sparkle::scalar::sparkle_scalar(
                 xor_block(variant, words, block, 6, 6),
                 StateWords::Words12,
+                0,
                 steps,
             )
         }

@@ -1,27 +1,35 @@
--- `run8` runs `count` steps. The invariant: the steps that are left, run on what is there, give what was to come.
+-- `run8` runs `count` steps. The invariant: a step is left, and the steps that are left, run on what is there, give what was to come.
 use mathlib.Core.Path.{_≡_, refl, _∙_}
+use Prim.Native.Nat.{_<_}
 use native.Mathlib.Omega.{arith}
 use Rattle.sparkle.specs.Sparkle.{run}
-use Rattle.sparkle.proofs.Runs.{run-turn, run-none}
+use Rattle.sparkle.proofs.Runs.{run-turn, run-last, run-none}
 use Rattle.sparkle.proofs.scalar.run8.Statement.{statement}
 use Rattle.sparkle.proofs.scalar.run8.Tie as tie
 
 abbrev Inv-loop : tie.InvT-loop
-Inv-loop first count v₀ s₀ left₀ v s left = run 4 s left v ≡ run 4 first count v₀
+Inv-loop first count v₀ s₀ left₀ v s left = (0 < left) × (run 4 s left v ≡ run 4 first count v₀)
 
 abbrev μ-loop : tie.MeasureT-loop
 μ-loop first count v₀ s₀ left₀ v s left = left
 
 loop-holds : tie.Need-loop-holds Inv-loop μ-loop
-loop-holds c = refl
+loop-holds c = (c .if1 .taken, refl)
 
 loop-again : tie.Need-loop-again Inv-loop μ-loop
 loop-again c =
-    rw (c .before .step8 .ensures, c .wrapping-add-u32 .ensures)
-    (run-turn 4 _ _ _ (c .before .before .loop-test .taken) ∙ c .before .before .before .loop .inv)
+    let at = c .before .before .before .loop in (
+      omega arith,
+      rw (c .before .before .step8 .ensures, c .before .next-step .ensures) (run-turn 4 _ _ _ (at .inv .0) ∙ at .inv .1),
+    )
 
 returns : tie.Need-returns Inv-loop μ-loop
-returns c = run-none 4 _ _ _ (c .loop-test .left) ∙ c .before .loop .inv
+returns c =
+    let at = c .before .before .before .loop in
+    rw (c .before .before .step8 .ensures) (run-last 4 (at .s) (at .left) _ (at .inv .0) (omega arith) ∙ at .inv .1)
+
+returns-2 : tie.Need-returns-2 Inv-loop μ-loop
+returns-2 c = run-none 4 _ _ _ (c .if1 .left)
 
 pub run8-spec : {M : Type 1} → statement M
 run8-spec =
@@ -35,4 +43,5 @@ run8-spec =
     (λ c. omega arith)
     (λ c. omega arith)
     loop-again
-    returns)
+    returns
+    returns-2)

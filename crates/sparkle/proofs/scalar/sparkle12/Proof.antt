@@ -17,9 +17,9 @@ returns c =
     let w = c .before .args .t1 in
     let whole = tabbed 16 w (c .before .good .0 .1 .0 .1) in
     ap₂ (λ (u l : List ℕ). u ++ drop 12 l) (tabbed 12 (c .run12 .result) (c .run12 .ok .1 .0 .1)) whole
-    ∙ sparkle-in 6 (c .before .args .steps) w (c .run12 .result) (omega (arith, c .before .good .0 .1 .0 .1))
+    ∙ sparkle-in 6 (c .before .args .first) (c .before .args .count) w (c .run12 .result) (omega (arith, c .before .good .0 .1 .0 .1))
     (array-words w _ (c .before .good .0 .1 .1))
-    (c .run12 .ensures ∙ ap (λ (l : List ℕ). run 6 0 (c .before .args .steps) (take 12 l)) whole)
+    (c .run12 .ensures ∙ ap (λ (l : List ℕ). run 6 (c .before .args .first) (c .before .args .count) (take 12 l)) whole)
 
 pub sparkle12-spec : {M : Type 1} → statement M
 sparkle12-spec =

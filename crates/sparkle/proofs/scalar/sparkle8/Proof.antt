@@ -17,9 +17,9 @@ returns c =
     let w = c .before .args .t1 in
     let whole = tabbed 16 w (c .before .good .0 .1 .0 .1) in
     ap₂ (λ (u l : List ℕ). u ++ drop 8 l) (tabbed 8 (c .run8 .result) (c .run8 .ok .1 .0 .1)) whole
-    ∙ sparkle-in 4 (c .before .args .steps) w (c .run8 .result) (omega (arith, c .before .good .0 .1 .0 .1))
+    ∙ sparkle-in 4 (c .before .args .first) (c .before .args .count) w (c .run8 .result) (omega (arith, c .before .good .0 .1 .0 .1))
     (array-words w _ (c .before .good .0 .1 .1))
-    (c .run8 .ensures ∙ ap (λ (l : List ℕ). run 4 0 (c .before .args .steps) (take 8 l)) whole)
+    (c .run8 .ensures ∙ ap (λ (l : List ℕ). run 4 (c .before .args .first) (c .before .args .count) (take 8 l)) whole)
 
 pub sparkle8-spec : {M : Type 1} → statement M
 sparkle8-spec =

@@ -15,7 +15,7 @@ returns-3 : tie.Need-returns-3
 returns-3 c =
     let s = c .before .before .before in
     rw (c .before .enum-told3 .given .1, c .run16 .ensures)
-    (sparkle-whole 8 (s .args .steps) (s .args .w) (s .good .0 .1 .0 .1)
+    (sparkle-whole 8 (s .args .first) (s .args .count) (s .args .w) (s .good .0 .1 .0 .1)
     (array-words (s .args .w) _ (s .good .0 .1 .1)))
 
 pub sparkle-scalar-spec : {M : Type 1} → statement M

@@ -1,10 +1,10 @@
 -- `run_groups` runs `count` steps. The invariant: a step is left, and the steps that are left, run on what is there, give what was to come.
 use mathlib.Core.Path.{_≡_, refl, _∙_}
-use Prim.Native.Nat.{_-_, _<_}
+use Prim.Native.Nat.{_<_}
 use native.Mathlib.Omega.{arith}
 use Rattle.sparkle.specs.Sparkle.{run}
 use Rattle.sparkle.specs.Lanes.{joined}
-use Rattle.sparkle.proofs.Runs.{run-turn, run-none}
+use Rattle.sparkle.proofs.Runs.{run-turn, run-last, run-none}
 use Rattle.sparkle.proofs.sse2.run_groups.Statement.{statement}
 use Rattle.sparkle.proofs.sse2.run_groups.Tie as tie
 
@@ -21,15 +21,14 @@ loop-again : tie.Need-loop-again Inv-loop μ-loop
 loop-again c =
     let at = c .before .before .before .loop in (
       omega arith,
-      rw (c .before .before .step16 .ensures, c .before .wrapping-add-u32 .ensures)
+      rw (c .before .before .step16 .ensures, c .before .next-step .ensures)
           (run-turn 8 _ _ _ (at .inv .0) ∙ at .inv .1),
     )
 
 returns : tie.Need-returns Inv-loop μ-loop
 returns c =
     let at = c .before .before .before .loop in
-    rw (c .before .before .step16 .ensures)
-    (run-none 8 _ (at .left - 1) _ (omega arith) ∙ run-turn 8 (at .s) (at .left) _ (at .inv .0) ∙ at .inv .1)
+    rw (c .before .before .step16 .ensures) (run-last 8 (at .s) (at .left) _ (at .inv .0) (omega arith) ∙ at .inv .1)
 
 returns-2 : tie.Need-returns-2 Inv-loop μ-loop
 returns-2 c = run-none 8 _ _ _ (c .if1 .left)

@@ -12,7 +12,7 @@ returns c =
     let s = c .before .before .before in
     c .join .ensures ∙ c .before .run-groups .ensures
     ∙ ap (run 8 0 (s .args .steps)) (c .before .before .split .ensures)
-    ∙ sparkle-whole 8 (s .args .steps) (s .args .w) (s .good .0 .1 .0 .1) (array-words (s .args .w) _ (s .good .0 .1 .1))
+    ∙ sparkle-whole 8 0 (s .args .steps) (s .args .w) (s .good .0 .1 .0 .1) (array-words (s .args .w) _ (s .good .0 .1 .1))
 
 pub sparkle-opt16-spec : {M : Type 1} → statement M
 sparkle-opt16-spec = tie.close (tie.spec (λ c κs. search needs) (λ c κs. search needs) (λ c κs. search needs) returns)

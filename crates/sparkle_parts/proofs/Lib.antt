@@ -1,0 +1,2 @@
+-- The laws of runs in parts.
+pub mod Claims

@@ -1,0 +1,2 @@
+-- Two of the vectors as theorems.
+pub mod Vectors
