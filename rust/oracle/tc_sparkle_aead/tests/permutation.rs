@@ -1,9 +1,11 @@
 //! The SSE2 form of the permutation equals the scalar form on pseudo-random
 //! 16-word states. sse2.rs asserts an even number of steps in a debug build,
-//! so odd numbers are compared in a release build only. The rows of
-//! docs/DIFFERENCES.md, section 1, on the permutation are shown too.
+//! so odd numbers are compared in a release build only. The first two rows of
+//! docs/DIFFERENCES.md, section 1, are shown too.
 
-use tc_sparkle_aead::scalar::{ROUND_CONSTANTS, arx_box_at, ell_at, sparkle_scalar_at};
+use tc_sparkle_aead::scalar::{
+    ROUND_CONSTANTS, arx_box_at, ell_at, sparkle_scalar_at, sparkle_scalar_from,
+};
 use tc_sparkle_aead::sparkle_opt16;
 
 /// States compared for each number of steps.
@@ -98,6 +100,22 @@ fn words_beyond_the_state_stay() {
             let mut state = start;
             sparkle_scalar_at(&mut state, size, steps);
             assert_eq!(state[size..], start[size..], "{size} words, {steps} steps");
+        }
+    }
+}
+
+/// `sparkle_scalar_from` is the rest of a run of the original.
+#[test]
+fn steps_from_a_first_step_are_the_rest_of_a_run() {
+    let mut words = Words(4);
+    for size in [8, 12, 16] {
+        for (first, count) in (0..=20).flat_map(|first| [(first, 0), (first, 1), (first, 17)]) {
+            let start = words.state();
+            let (mut midway, mut whole) = (start, start);
+            sparkle_scalar_at(&mut midway, size, first);
+            sparkle_scalar_from(&mut midway, size, first as u32, count);
+            sparkle_scalar_at(&mut whole, size, first + count as usize);
+            assert_eq!(midway, whole, "{size} words, {count} steps from {first}");
         }
     }
 }
