@@ -1,6 +1,7 @@
 //! `sparkle_run` of `crates/sparkle_bench` beside the Rust original: from any
 //! first step, in two parts, and on slices that begin with no state.
 
+use replay::random::Random;
 use tc_sparkle_aead::scalar::{sparkle_scalar_at, sparkle_scalar_from};
 
 unsafe extern "C" {
@@ -17,28 +18,16 @@ fn run(words: &mut [u32], size: u8, first: u32, count: u32) -> u8 {
     unsafe { sparkle_run(words.as_mut_ptr(), words.len(), size, first, count) }
 }
 
-/// A stream of pseudo-random words (SplitMix64, upper halves).
-struct Words(u64);
-
-impl Words {
-    fn next(&mut self) -> u32 {
-        self.0 = self.0.wrapping_add(0x9e37_79b9_7f4a_7c15);
-        let mut z = self.0;
-        z = (z ^ (z >> 30)).wrapping_mul(0xbf58_476d_1ce4_e5b9);
-        z = (z ^ (z >> 27)).wrapping_mul(0x94d0_49bb_1331_11eb);
-        ((z ^ (z >> 31)) >> 32) as u32
-    }
-
-    fn slice(&mut self, len: usize) -> Vec<u32> {
-        (0..len).map(|_| self.next()).collect()
-    }
+/// `n` pseudo-random words.
+fn words(random: &mut Random, n: usize) -> Vec<u32> {
+    (0..n).map(|_| random.word() as u32).collect()
 }
 
 /// First steps: the first ones, the last ones before 2^32, and others.
-fn first_steps(words: &mut Words) -> Vec<u32> {
+fn first_steps(random: &mut Random) -> Vec<u32> {
     (0..=40)
         .chain((0..=40).map(|before| u32::MAX - before))
-        .chain(words.slice(400))
+        .chain(words(random, 400))
         .collect()
 }
 
@@ -53,12 +42,12 @@ fn original(start: &[u32], size: u8, first: u32, count: u32) -> Vec<u32> {
 
 #[test]
 fn from_any_first_step_as_the_original() {
-    let mut words = Words(1);
-    for first in first_steps(&mut words) {
+    let mut random = Random(1);
+    for first in first_steps(&mut random) {
         for size in SIZES {
-            let count = words.next() % 24;
-            let beyond = words.next() as usize % 9;
-            let start = words.slice(usize::from(size) + beyond);
+            let count = random.below(24) as u32;
+            let beyond = random.below(9);
+            let start = words(&mut random, usize::from(size) + beyond);
             let mut slice = start.clone();
             assert_eq!(run(&mut slice, size, first, count), 0);
             let expected = original(&start, size, first, count);
@@ -69,11 +58,11 @@ fn from_any_first_step_as_the_original() {
 
 #[test]
 fn a_run_in_two_is_the_run() {
-    let mut words = Words(2);
-    for first in first_steps(&mut words) {
+    let mut random = Random(2);
+    for first in first_steps(&mut random) {
         for size in SIZES {
-            let (a, b) = (words.next() % 60, words.next() % 60);
-            let start = words.slice(16);
+            let (a, b) = (random.below(60) as u32, random.below(60) as u32);
+            let start = words(&mut random, 16);
             let (mut whole, mut parts) = (start.clone(), start);
             run(&mut whole, size, first, a + b);
             run(&mut parts, size, first, a);
@@ -85,9 +74,9 @@ fn a_run_in_two_is_the_run() {
 
 #[test]
 fn many_steps_from_step_0_as_the_original() {
-    let mut words = Words(3);
+    let mut random = Random(3);
     for size in SIZES {
-        let mut slice = words.slice(16);
+        let mut slice = words(&mut random, 16);
         let mut state: [u32; 16] = slice.as_slice().try_into().expect("16 words");
         assert_eq!(run(&mut slice, size, 0, 100_000), 0);
         sparkle_scalar_at(&mut state, usize::from(size), 100_000);
@@ -97,13 +86,13 @@ fn many_steps_from_step_0_as_the_original() {
 
 #[test]
 fn words_of_no_state_stay() {
-    let mut words = Words(4);
+    let mut random = Random(4);
     for size in 0..=u8::MAX {
         for len in 0..=20 {
-            let start = words.slice(len);
+            let start = words(&mut random, len);
             let mut slice = start.clone();
             let state = SIZES.contains(&size) && usize::from(size) <= len;
-            let reply = run(&mut slice, size, words.next(), 1);
+            let reply = run(&mut slice, size, random.word() as u32, 1);
             assert_eq!(reply, u8::from(!state), "size {size}, {len} words");
             assert_eq!(slice != start, state, "size {size}, {len} words");
         }
