@@ -6,12 +6,13 @@ use native.Mathlib.Nat.{mod-lt, mod-eq-of-lt}
 use native.Mathlib.Omega.{arith}
 use lib.Dec.{lit<, lit≤}
 use lib.Bits.{bitXor, xor-lt}
-use lib.ListN.{length, take, drop, replicate, drop-of-length-le}
+use lib.ListN.{length, take, drop, getD, replicate, drop-of-length-le}
 use lib.Seq.{take-append-le, take-all, length-take-le}
 use Rattle.sparkle.specs.Words.{Words, addw, rotr, ell}
 use Rattle.sparkle.specs.Words.Below.{none, more}
 use Rattle.sparkle.specs.declared.scalar.Branch.{Branch}
 use Rattle.sparkle.specs.Sparkle.{rcon, quarter, arxBox, constants, boxes, xorXs, xorYs, xorEach, feistel, linear, step, run, state, sparkle, sparkleIn}
+use Rattle.sparkle.proofs.Tab.{tab, tabbed}
 use Rattle.sparkle.proofs.Rotate.{rotr-lt}
 use Rattle.sparkle.proofs.Below.{below-at, below-append, below-take, below-drop, below-set, below-xors}
 
@@ -127,6 +128,13 @@ unfolding sparkle sparkleIn
 sparkle-in b s k w v h hs e =
     ap (λ (l : List ℕ). l ++ drop (b + b) w)
     (e ∙ ap (run b s k) (sym (state-of-words b (take (b + b) w) (length-take-le (b + b) w h) (below-take (b + b) hs))))
+
+-- the same with an array of 16 words written out: the words of the run, and those behind the state
+pub sparkle-of-16 : (b s k : ℕ) (w v : List ℕ) → b + b ≤ 16 → length w ≡ 16 → Words w → length v ≡ b + b → v ≡ run b s k (take (b + b) (tab 16 (λ i. getD w i 0))) → tab (b + b) (λ i. getD v i 0) ++ drop (b + b) (tab 16 (λ i. getD w i 0)) ≡ sparkleIn b s k w
+sparkle-of-16 b s k w v h hw hs hv e =
+    let whole = tabbed 16 w hw in
+    ap₂ (λ (u l : List ℕ). u ++ drop (b + b) l) (tabbed (b + b) v hv) whole
+    ∙ sparkle-in b s k w v (omega arith) hs (e ∙ ap (λ (l : List ℕ). run b s k (take (b + b) l)) whole)
 
 -- the same where the array is the state
 pub sparkle-whole : (b s k : ℕ) (w : List ℕ) → length w ≡ b + b → Words w → run b s k w ≡ sparkleIn b s k w

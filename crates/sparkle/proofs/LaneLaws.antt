@@ -12,7 +12,7 @@ use lib.ListN.{getD}
 use Rattle.sparkle.specs.Words.{addw, shlw, rotr, ell}
 use Rattle.sparkle.specs.declared.sse2.Groups.{Groups}
 use Rattle.sparkle.specs.Sparkle.{rcon, quarter, arxBox, constants, boxes, xorXs, xorYs, xors, xorEach, feistel, linear, step}
-use Rattle.sparkle.specs.Lanes.{four, lanes, lanes2, shuffled, lanesX, lanesY, folded, Above, pairs, joined}
+use Rattle.sparkle.specs.Lanes.{four, lanes, lanes2, shuffled, lanesX, lanesY, folded, Above, pairs, joined, row}
 use Rattle.sparkle.proofs.Xor.{xor-assoc}
 use Rattle.sparkle.proofs.Rotate.{xor-rotr, xor-shifts, sum-shifts, rotr-zero, shlw-half, high-part}
 
@@ -121,7 +121,11 @@ halves y s hy hs =
     ∙ sym (xor-block 16 (y / 2 ^ 16) (s % 2 ^ 16) (y % 2 ^ 16) (s / 2 ^ 16) y-low s-high)
     ∙ ap (λ (n : ℕ). bitXor n (s % 2 ^ 16 * 2 ^ 16 + s / 2 ^ 16)) (div-add-mod' y (2 ^ 16))
 
-pub last-y : (x y rc : List ℕ) → ((i : ℕ) → getD y i 0 < 2 ^ 32) → lanes2 bitOr (lanes (λ v. bitAnd v 0xffff0000) (lanes2 bitXor y (lanes (shlw 16) (lanes2 (λ u v. addw u (rotr 24 v)) x y)))) (lanes (λ v. bitAnd v 0x0000ffff) (lanes2 bitXor y (lanes (λ v. v / 2 ^ 16) (lanes2 (λ u v. addw u (rotr 24 v)) x y)))) ≡ lanesY (quarter 24 16) rc x y
+-- a mask in each lane
+abbrev pub mask4 : ℕ → List ℕ
+mask4 m = four (λ i. m)
+
+pub last-y : (x y rc : List ℕ) → ((i : ℕ) → getD y i 0 < 2 ^ 32) → lanes2 bitOr (lanes2 bitAnd (lanes2 bitXor y (lanes (shlw 16) (lanes2 (λ u v. addw u (rotr 24 v)) x y))) (mask4 0xffff0000)) (lanes2 bitAnd (lanes2 bitXor y (lanes (λ v. v / 2 ^ 16) (lanes2 (λ u v. addw u (rotr 24 v)) x y))) (mask4 0x0000ffff)) ≡ lanesY (quarter 24 16) rc x y
 unfolding lanes2 lanes lanesY quarter
 last-y x y rc hy =
     four-ext (λ i.
@@ -226,13 +230,12 @@ withConstants : ℕ → List ℕ → List ℕ
 withConstants s b =
     bitXor (getD b 0 0) (rcon (s % 8)) ∷ (bitXor (getD b 1 0) (s % 2 ^ 32) ∷ (getD b 2 0 ∷ (getD b 3 0 ∷ [])))
 
-constants-lanes : (s : ℕ) (b : List ℕ) → s < 2 ^ 32 → lanes2 bitXor b (rcon (s % 8) ∷ (s ∷ (0 ∷ (0 ∷ [])))) ≡ withConstants s b
-unfolding lanes2 withConstants
-constants-lanes s b hs =
+constants-lanes : (s : ℕ) (b : List ℕ) → lanes2 bitXor b (row s) ≡ withConstants s b
+unfolding lanes2 withConstants row
+constants-lanes s b =
     λ k.
     bitXor (getD b 0 0) (rcon (s % 8))
-    ∷ (bitXor (getD b 1 0) (sym (mod-eq-of-lt hs) k)
-    ∷ (xor-zero-r (getD b 2 0) k ∷ (xor-zero-r (getD b 3 0) k ∷ [])))
+    ∷ (bitXor (getD b 1 0) (s % 2 ^ 32) ∷ (xor-zero-r (getD b 2 0) k ∷ (xor-zero-r (getD b 3 0) k ∷ [])))
 
 abbrev pub rc03 : List ℕ
 rc03 = rcon 0 ∷ (rcon 1 ∷ (rcon 2 ∷ (rcon 3 ∷ [])))
@@ -256,10 +259,10 @@ linear-lanes lx ly hx hy =
     λ k.
     nx 1 k ∷ (ny 1 k ∷ (nx 2 k ∷ (ny 2 k ∷ (nx 3 k ∷ (ny 3 k ∷ (nx 0 k ∷ (ny 0 k ∷ pairs lx ly)))))))
 
-pub step-lanes : (s : ℕ) (g : Groups) (b lx ly hx hy nx ny : List ℕ) → s < 2 ^ 32 → b ≡ lanes2 bitXor (g .s1357) (rcon (s % 8) ∷ (s ∷ (0 ∷ (0 ∷ [])))) → lx ≡ lanesX arxBox rc03 (g .s0246) b → ly ≡ lanesY arxBox rc03 (g .s0246) b → hx ≡ lanesX arxBox rc47 (g .s8ace) (g .s9bdf) → hy ≡ lanesY arxBox rc47 (g .s8ace) (g .s9bdf) → nx ≡ lanes2 bitXor (lanes ell (folded ly)) (shuffled 0x39 (lanes2 bitXor lx hx)) → ny ≡ lanes2 bitXor (lanes ell (folded lx)) (shuffled 0x39 (lanes2 bitXor ly hy)) → pairs nx ny ++ pairs lx ly ≡ step 8 s (joined g)
+pub step-lanes : (s : ℕ) (g : Groups) (b lx ly hx hy nx ny : List ℕ) → b ≡ lanes2 bitXor (g .s1357) (row s) → lx ≡ lanesX arxBox rc03 (g .s0246) b → ly ≡ lanesY arxBox rc03 (g .s0246) b → hx ≡ lanesX arxBox rc47 (g .s8ace) (g .s9bdf) → hy ≡ lanesY arxBox rc47 (g .s8ace) (g .s9bdf) → nx ≡ lanes2 bitXor (lanes ell (folded ly)) (shuffled 0x39 (lanes2 bitXor lx hx)) → ny ≡ lanes2 bitXor (lanes ell (folded lx)) (shuffled 0x39 (lanes2 bitXor ly hy)) → pairs nx ny ++ pairs lx ly ≡ step 8 s (joined g)
 unfolding step
-step-lanes s g b lx ly hx hy nx ny hs eb elx ely ehx ehy enx eny =
-    let constant = eb ∙ constants-lanes s (g .s1357) hs in
+step-lanes s g b lx ly hx hy nx ny eb elx ely ehx ehy enx eny =
+    let constant = eb ∙ constants-lanes s (g .s1357) in
     let px = elx ∙ ap (lanesX arxBox rc03 (g .s0246)) constant in
     let py = ely ∙ ap (lanesY arxBox rc03 (g .s0246)) constant in
     ap₂ (λ (u v : List ℕ). pairs u v ++ pairs lx ly) enx eny ∙ linear-lanes lx ly hx hy

@@ -8,5 +8,6 @@ pub mod Bounds
 pub mod Runs
 pub mod Arrays
 pub mod LaneLaws
+pub mod Rows
 pub mod WorkedExamples
 pub mod Claims

@@ -1,10 +1,11 @@
 -- The four-group form's parts (document 01: "works on four groups of four words"): operations on lanes, and how the
 -- four groups hold a state. A group is a list of four words.
-use Prim.Native.Nat.{ℕ, _/_, _%_, _^_}
+use Prim.Native.Nat.{ℕ, zero, suc, _/_, _%_, _^_}
 use mathlib.Core.Path.{_≡_}
 use mathlib.Core.List.{List, [], _∷_, _++_}
 use lib.ListN.{getD}
 use lib.Bits.{bitXor}
+use Rattle.sparkle.specs.Sparkle.{rcon}
 use Rattle.sparkle.specs.declared.scalar.Branch.{Branch}
 use Rattle.sparkle.specs.declared.sse2.Groups.{Groups}
 
@@ -51,3 +52,12 @@ pairs x y =
 -- The state that four groups hold.
 unfoldable pub joined : Groups → List ℕ
 joined g = pairs (g .s0246) (g .s1357) ++ pairs (g .s8ace) (g .s9bdf)
+
+-- The constants of step s in the lanes of words 1, 3, 5, 7.
+unfoldable pub row : ℕ → List ℕ
+row s = rcon (s % 8) ∷ (s % 2 ^ 32 ∷ (0 ∷ (0 ∷ [])))
+
+-- The rows of n steps, one after the other, the first of them that of step s.
+unfoldable pub rowsFrom : ℕ → ℕ → List ℕ
+rowsFrom s zero = []
+rowsFrom s (suc n) = row s ++ rowsFrom (suc s) n

@@ -135,7 +135,7 @@ fn step8(w: [u32; 8], s: u32) -> [u32; 8]
 
 // `count` steps from the step `first` on. The test stands at the end of a turn, here and in the two
 // runs below; docs/PERFORMANCE.md compares this with other shapes.
-fn run8(w: [u32; 8], first: u32, count: u32) -> [u32; 8]
+pub fn run8(w: [u32; 8], first: u32, count: u32) -> [u32; 8]
     ensures { λ r. ⌜ r ≡ run 4 first count w ⌝ }
 {
     let mut v = w;
@@ -211,7 +211,7 @@ fn step12(w: [u32; 12], s: u32) -> [u32; 12]
 }
 
 // `count` steps from the step `first` on.
-fn run12(w: [u32; 12], first: u32, count: u32) -> [u32; 12]
+pub fn run12(w: [u32; 12], first: u32, count: u32) -> [u32; 12]
     ensures { λ r. ⌜ r ≡ run 6 first count w ⌝ }
 {
     let mut v = w;

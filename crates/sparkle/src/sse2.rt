@@ -1,16 +1,19 @@
 // The permutation of 16 words in four groups of four (the Rust's sse2.rs): arrays by value in place
 // of `__m128i`, and lane helpers in place of the intrinsics.
 //
-// The compiler makes SSE2 instructions of it. It does so only where no pair of shifts looks like a
-// rotation, for which SSE2 has no instruction: a rotation is taken up one shift after the other,
-// and the right shift is taken of `t`, which has the high bits of y and not its low ones.
-// docs/PERFORMANCE.md compares it with other shapes, and the gate looks at the instructions.
+// The compiler makes SSE2 instructions of it where it finds the four lanes alike and no rotation, for
+// which SSE2 has no instruction. So a rotation is taken up one shift after the other, and the right
+// shift is taken of `t`, which has the high bits of y and not its low ones. The constants of a step
+// are a row that is read whole from a table, so that all lanes are alike: of a row written
+// `[rc, s, 0, 0]` in the loop the two zeros fold away, and the lanes part. And `step16` has one
+// caller, so that it is compiled into `run_rows`. docs/PERFORMANCE.md compares it with other shapes,
+// and the gate looks at the instructions.
 ghost use mathlib.Core.Path.{_≡_};
 ghost use Prim.Native.Nat.{ℕ, _+_, _%_, _^_, _/_, _<_, _≤_};
 ghost use lib.Bits.{bitXor, bitAnd, bitOr};
 ghost use Rattle.sparkle.specs.Words.{addw, shlw, ell};
 ghost use Rattle.sparkle.specs.Sparkle.{quarter, arxBox, step, run, sparkleIn};
-ghost use Rattle.sparkle.specs.Lanes.{lanes, lanes2, shuffled, lanesX, lanesY, folded, Above, joined};
+ghost use Rattle.sparkle.specs.Lanes.{lanes, lanes2, shuffled, lanesX, lanesY, folded, Above, joined, row, rowsFrom};
 use super::scalar;
 
 // The state: words 0, 2, 4, 6, then 1, 3, 5, 7, and so on.
@@ -21,6 +24,71 @@ pub struct Groups {
     pub s9bdf: [u32; 4],
 }
 
+// The constants of the first twelve steps, a row for each: row s has RCON[s % 8], the step's number s
+// and two zeros, which step s xors into words 1, 3, 5 and 7.
+const ROWS: [u32; 48] = [
+    // row 0
+    0xb7e1_5162,
+    0,
+    0,
+    0,
+    // row 1
+    0xbf71_5880,
+    1,
+    0,
+    0,
+    // row 2
+    0x38b4_da56,
+    2,
+    0,
+    0,
+    // row 3
+    0x324e_7738,
+    3,
+    0,
+    0,
+    // row 4
+    0xbb11_85eb,
+    4,
+    0,
+    0,
+    // row 5
+    0x4f7c_7b57,
+    5,
+    0,
+    0,
+    // row 6
+    0xcfbf_a1c8,
+    6,
+    0,
+    0,
+    // row 7
+    0xc2b3_293d,
+    7,
+    0,
+    0,
+    // row 8
+    0xb7e1_5162,
+    8,
+    0,
+    0,
+    // row 9
+    0xbf71_5880,
+    9,
+    0,
+    0,
+    // row 10
+    0x38b4_da56,
+    10,
+    0,
+    0,
+    // row 11
+    0x324e_7738,
+    11,
+    0,
+    0,
+];
+
 // Four branches on the way through a box: the x words, the y words, and words with the high bits of
 // the y words.
 pub struct Lanes {
@@ -29,7 +97,8 @@ pub struct Lanes {
     pub t: [u32; 4],
 }
 
-fn add4(a: [u32; 4], b: [u32; 4]) -> [u32; 4]
+// The sums of the lanes, without carries out of them.
+pub fn add4(a: [u32; 4], b: [u32; 4]) -> [u32; 4]
     ensures { λ r. ⌜ r ≡ lanes2 addw a b ⌝ }
 {
     [
@@ -40,32 +109,34 @@ fn add4(a: [u32; 4], b: [u32; 4]) -> [u32; 4]
     ]
 }
 
-fn xor4(a: [u32; 4], b: [u32; 4]) -> [u32; 4]
+// Xor, or and and of the lanes.
+pub fn xor4(a: [u32; 4], b: [u32; 4]) -> [u32; 4]
     ensures { λ r. ⌜ r ≡ lanes2 bitXor a b ⌝ }
 {
     [a[0] ^ b[0], a[1] ^ b[1], a[2] ^ b[2], a[3] ^ b[3]]
 }
 
-fn or4(a: [u32; 4], b: [u32; 4]) -> [u32; 4]
+pub fn or4(a: [u32; 4], b: [u32; 4]) -> [u32; 4]
     ensures { λ r. ⌜ r ≡ lanes2 bitOr a b ⌝ }
 {
     [a[0] | b[0], a[1] | b[1], a[2] | b[2], a[3] | b[3]]
 }
 
-fn and4(v: [u32; 4], m: u32) -> [u32; 4]
-    ensures { λ r. ⌜ r ≡ lanes (λ x. bitAnd x m) v ⌝ }
+pub fn and4(a: [u32; 4], b: [u32; 4]) -> [u32; 4]
+    ensures { λ r. ⌜ r ≡ lanes2 bitAnd a b ⌝ }
 {
-    [v[0] & m, v[1] & m, v[2] & m, v[3] & m]
+    [a[0] & b[0], a[1] & b[1], a[2] & b[2], a[3] & b[3]]
 }
 
-fn shl4(v: [u32; 4], n: u32) -> [u32; 4]
+// The lanes shifted left, and right, by n % 32 bits.
+pub fn shl4(v: [u32; 4], n: u32) -> [u32; 4]
     ensures { λ r. ⌜ r ≡ lanes (shlw (n % 32)) v ⌝ }
 {
     let k = n % 32;
     [v[0] << k, v[1] << k, v[2] << k, v[3] << k]
 }
 
-fn shr4(v: [u32; 4], n: u32) -> [u32; 4]
+pub fn shr4(v: [u32; 4], n: u32) -> [u32; 4]
     ensures { λ r. ⌜ r ≡ lanes (λ x. x / 2 ^ (n % 32)) v ⌝ }
 {
     let k = n % 32;
@@ -73,7 +144,7 @@ fn shr4(v: [u32; 4], n: u32) -> [u32; 4]
 }
 
 // The lanes in the order that the control gives, two bits for each.
-fn shuffle4(v: [u32; 4], control: usize) -> [u32; 4]
+pub fn shuffle4(v: [u32; 4], control: usize) -> [u32; 4]
     ensures { λ r. ⌜ r ≡ shuffled control v ⌝ }
 {
     let a = control % 4;
@@ -117,8 +188,14 @@ fn last4(x: [u32; 4], y: [u32; 4], t: [u32; 4], rc: [u32; 4]) -> Lanes
     ensures { λ r. ⌜ (r .x ≡ lanesX (quarter 24 16) rc x y) × (r .y ≡ lanesY (quarter 24 16) rc x y) ⌝ }
 {
     let sum = add4(add4(x, shl4(y, 8)), shr4(t, 24));
-    let high = and4(xor4(y, shl4(sum, 16)), 0xffff_0000);
-    let low = and4(xor4(y, shr4(sum, 16)), 0x0000_ffff);
+    let high = and4(
+        xor4(y, shl4(sum, 16)),
+        [0xffff_0000, 0xffff_0000, 0xffff_0000, 0xffff_0000],
+    );
+    let low = and4(
+        xor4(y, shr4(sum, 16)),
+        [0x0000_ffff, 0x0000_ffff, 0x0000_ffff, 0x0000_ffff],
+    );
     Lanes {
         x: xor4(sum, rc),
         y: or4(high, low),
@@ -191,8 +268,9 @@ fn ell_of_xor(v: [u32; 4], t: [u32; 4]) -> [u32; 4]
     horizontal_xor(ell4(v, t))
 }
 
-fn step16(g: Groups, s: u32) -> Groups
-    ensures { λ r. ⌜ joined r ≡ step 8 s (joined g) ⌝ }
+// The step that has the row `constants`.
+fn step16(g: Groups, constants: [u32; 4]) -> Groups
+    ensures { λ r. ⌜ ((s : ℕ) → constants ≡ row s → joined r ≡ step 8 s (joined g)) ⌝ }
 {
     let s0246 = g.s0246;
     let s1357 = g.s1357;
@@ -200,11 +278,7 @@ fn step16(g: Groups, s: u32) -> Groups
     let s9bdf = g.s9bdf;
     let rc03 = [scalar::RCON0, scalar::RCON1, scalar::RCON2, scalar::RCON3];
     let rc47 = [scalar::RCON4, scalar::RCON5, scalar::RCON6, scalar::RCON7];
-    let low = low_boxes(
-        s0246,
-        xor4(s1357, [scalar::round_constant(s), s, 0, 0]),
-        rc03,
-    );
+    let low = low_boxes(s0246, xor4(s1357, constants), rc03);
     let high = high_boxes(s8ace, s9bdf, rc47);
     let lx = low.x;
     let ly = low.y;
@@ -221,29 +295,68 @@ fn step16(g: Groups, s: u32) -> Groups
     }
 }
 
-// `count` steps from the step `first` on. The test stands at the end of a turn, which keeps the groups
-// in SSE2 registers.
-fn run_groups(start: Groups, first: u32, count: u32) -> Groups
-    ensures { λ r. ⌜ joined r ≡ run 8 first count (joined start) ⌝ }
+// `count` steps, by the rows of a table whose first row is that of the step `first`, which only the
+// contract names. The test stands at the end of a turn, which keeps the groups in SSE2 registers.
+fn run_rows(start: Groups, rows: [u32; 48], count: u32) -> Groups
+    requires { ⌜ (0 < count) × (count ≤ 12) ⌝ }
+    ensures { λ r. ⌜ ((first : ℕ) → rows ≡ rowsFrom first 12 → joined r ≡ run 8 first count (joined start)) ⌝ }
 {
     let mut g = start;
-    if 0 < count {
-        let mut s = first;
-        let mut left = count;
-        loop {
-            let next = step16(g, s);
-            g = next;
-            s = scalar::next_step(s);
-            left -= 1;
-            if left == 0 {
-                break;
-            }
+    let mut s = 0u32;
+    loop {
+        let k = s as usize * 4;
+        let next = step16(g, [rows[k], rows[k + 1], rows[k + 2], rows[k + 3]]);
+        g = next;
+        s += 1;
+        if s == count {
+            break;
         }
     }
     g
 }
 
-fn split(w: [u32; 16]) -> Groups
+// The rows of twelve steps from the step `first` on, computed.
+fn rows_from(first: u32) -> [u32; 48]
+    ensures { λ r. ⌜ r ≡ rowsFrom first 12 ⌝ }
+{
+    let mut r = [0u32; 48];
+    let mut i = 0;
+    let mut s = first;
+    while i < 12 {
+        let k = i * 4;
+        r[k] = scalar::round_constant(s);
+        r[k + 1] = s;
+        s = scalar::next_step(s);
+        i += 1;
+    }
+    r
+}
+
+// The permutation's steps on four groups, from step 0: the first twelve by the table of rows, those
+// behind them by rows that are computed.
+pub fn run_groups(start: Groups, count: u32) -> Groups
+    ensures { λ r. ⌜ joined r ≡ run 8 0 count (joined start) ⌝ }
+{
+    if count == 0 {
+        return start;
+    }
+    let mut g = start;
+    let mut rows = ROWS;
+    let mut first = 0u32;
+    let mut left = count;
+    while 12 < left {
+        let next = run_rows(g, rows, 12);
+        g = next;
+        first += 12;
+        left -= 12;
+        let more = rows_from(first);
+        rows = more;
+    }
+    run_rows(g, rows, left)
+}
+
+// A state in four groups.
+pub fn split(w: [u32; 16]) -> Groups
     ensures { λ r. ⌜ joined r ≡ w ⌝ }
 {
     Groups {
@@ -254,7 +367,8 @@ fn split(w: [u32; 16]) -> Groups
     }
 }
 
-fn join(g: Groups) -> [u32; 16]
+// The state that four groups hold.
+pub fn join(g: Groups) -> [u32; 16]
     ensures { λ r. ⌜ r ≡ joined g ⌝ }
 {
     let a = g.s0246;
@@ -285,5 +399,5 @@ fn join(g: Groups) -> [u32; 16]
 pub fn sparkle_opt16(w: [u32; 16], steps: u32) -> [u32; 16]
     ensures { λ r. ⌜ r ≡ sparkleIn 8 0 steps w ⌝ }
 {
-    join(run_groups(split(w), 0, steps))
+    join(run_groups(split(w), steps))
 }

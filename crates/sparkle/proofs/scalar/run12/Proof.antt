@@ -1,35 +1,25 @@
--- `run12` runs `count` steps. The invariant: a step is left, and the steps that are left, run on what is there, give what was to come.
-use mathlib.Core.Path.{_≡_, refl, _∙_}
-use Prim.Native.Nat.{_<_}
+-- `run12` runs `count` steps, by the laws of a loop that runs them one after the other.
 use native.Mathlib.Omega.{arith}
-use Rattle.sparkle.specs.Sparkle.{run}
-use Rattle.sparkle.proofs.Runs.{run-turn, run-last, run-none}
+use Rattle.sparkle.proofs.Runs.{Left, run-start, run-turn, run-last, run-none}
 use Rattle.sparkle.proofs.scalar.run12.Statement.{statement}
 use Rattle.sparkle.proofs.scalar.run12.Tie as tie
 
 abbrev Inv-loop : tie.InvT-loop
-Inv-loop first count v₀ s₀ left₀ v s left = (0 < left) × (run 6 s left v ≡ run 6 first count v₀)
+Inv-loop first count v₀ s₀ left₀ v s left = Left 6 first count v₀ v s left
 
 abbrev μ-loop : tie.MeasureT-loop
 μ-loop first count v₀ s₀ left₀ v s left = left
 
 loop-holds : tie.Need-loop-holds Inv-loop μ-loop
-loop-holds c = (c .if1 .taken, refl)
+loop-holds c = run-start (c .if1 .taken)
 
 loop-again : tie.Need-loop-again Inv-loop μ-loop
 loop-again c =
-    let at = c .before .before .before .loop in (
-      omega arith,
-      rw (c .before .before .step12 .ensures, c .before .next-step .ensures) (run-turn 6 _ _ _ (at .inv .0) ∙ at .inv .1),
-    )
+    let some = c .before .before .before .loop .inv .some in
+    run-turn (c .before .before .before .loop .inv) (c .before .before .step12 .ensures) (c .before .next-step .ensures) (omega arith) (omega arith)
 
 returns : tie.Need-returns Inv-loop μ-loop
-returns c =
-    let at = c .before .before .before .loop in
-    rw (c .before .before .step12 .ensures) (run-last 6 (at .s) (at .left) _ (at .inv .0) (omega arith) ∙ at .inv .1)
-
-returns-2 : tie.Need-returns-2 Inv-loop μ-loop
-returns-2 c = run-none 6 _ _ _ (c .if1 .left)
+returns c = run-last (c .before .before .before .loop .inv) (c .before .before .step12 .ensures) (omega arith)
 
 pub run12-spec : {M : Type 1} → statement M
 run12-spec =
@@ -40,8 +30,8 @@ run12-spec =
     loop-holds
     (λ c κs. tt)
     (λ c κs. tt)
-    (λ c. omega arith)
-    (λ c. omega arith)
+    (λ c. omega (arith, c .before .before .loop .inv .some))
+    (λ c. omega (arith, c .before .before .before .loop .inv .some))
     loop-again
     returns
-    returns-2)
+    (λ c. run-none 6 _ _ _ (c .if1 .left)))

@@ -1,25 +1,16 @@
 -- `sparkle8` is a run on the first 8 words of the array, with the others behind it.
-use mathlib.Core.Path.{ap, ap₂, _∙_}
-use mathlib.Core.List.{List, _++_}
-use Prim.Native.Nat.{ℕ}
-use native.Mathlib.Omega.{arith}
-use lib.ListN.{take, drop}
+use lib.Dec.{lit≤}
 use borrow.Author.Needs.{needs}
-use Rattle.sparkle.specs.Sparkle.{run}
 use Rattle.sparkle.proofs.Arrays.{array-words}
-use Rattle.sparkle.proofs.Tab.{tabbed}
-use Rattle.sparkle.proofs.Bounds.{sparkle-in}
+use Rattle.sparkle.proofs.Bounds.{sparkle-of-16}
 use Rattle.sparkle.proofs.scalar.sparkle8.Statement.{statement}
 use Rattle.sparkle.proofs.scalar.sparkle8.Tie as tie
 
 returns : tie.Need-returns
 returns c =
     let w = c .before .args .t1 in
-    let whole = tabbed 16 w (c .before .good .0 .1 .0 .1) in
-    ap₂ (λ (u l : List ℕ). u ++ drop 8 l) (tabbed 8 (c .run8 .result) (c .run8 .ok .1 .0 .1)) whole
-    ∙ sparkle-in 4 (c .before .args .first) (c .before .args .count) w (c .run8 .result) (omega (arith, c .before .good .0 .1 .0 .1))
-    (array-words w _ (c .before .good .0 .1 .1))
-    (c .run8 .ensures ∙ ap (λ (l : List ℕ). run 4 (c .before .args .first) (c .before .args .count) (take 8 l)) whole)
+    sparkle-of-16 4 _ _ w (c .run8 .result) (lit≤ tt) (c .before .good .0 .1 .0 .1) (array-words w _ (c .before .good .0 .1 .1))
+    (c .run8 .ok .1 .0 .1) (c .run8 .ensures)
 
 pub sparkle8-spec : {M : Type 1} → statement M
 sparkle8-spec =

@@ -7,7 +7,7 @@ use lib.Dec.{lit<}
 use borrow.Author.Needs.{needs}
 use Rattle.sparkle.specs.Words.{addw, shlw}
 use Rattle.sparkle.specs.Lanes.{lanes, lanes2}
-use Rattle.sparkle.proofs.LaneLaws.{quarter-sum, quarter-x, last-y}
+use Rattle.sparkle.proofs.LaneLaws.{quarter-sum, quarter-x, mask4, last-y}
 use Rattle.sparkle.proofs.Below.{below-at}
 use Rattle.sparkle.proofs.Arrays.{array-words}
 use Rattle.sparkle.proofs.sse2.last4.Statement.{statement}
@@ -27,10 +27,10 @@ returns c =
       c .or4 .ensures
           ∙ ap₂ (lanes2 bitOr)
           (c .before .before .before .before .before .and4 .ensures
-          ∙ ap (lanes (λ v. bitAnd v 0xffff0000))
+          ∙ ap (λ (l : List ℕ). lanes2 bitAnd l (mask4 0xffff0000))
           (c .before .before .before .before .before .before .xor4 .ensures ∙ ap (lanes2 bitXor y) (c .before .before .before .before .before .before .before .shl42 .ensures ∙ ap (lanes (shlw 16)) sum)))
           (c .before .before .and42 .ensures
-          ∙ ap (lanes (λ v. bitAnd v 0x0000ffff))
+          ∙ ap (λ (l : List ℕ). lanes2 bitAnd l (mask4 0x0000ffff))
           (c .before .before .before .xor42 .ensures ∙ ap (lanes2 bitXor y) (c .before .before .before .before .shr42 .ensures ∙ ap (lanes (λ v. v / 2 ^ 16)) sum)))
           ∙ last-y x y rc (below-at (array-words y _ (s .good .1 .0 .1 .1))),
     )

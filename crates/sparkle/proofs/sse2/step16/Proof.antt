@@ -1,7 +1,5 @@
 -- `step16` is a step on the state that the groups hold: the parts as lanes, put together by `step-lanes`.
 use mathlib.Core.Path.{ap, ap₂, _∙_}
-use mathlib.Core.List.{[], _∷_}
-use Prim.Native.Nat.{ℕ}
 use lib.Bits.{bitXor}
 use borrow.Author.Needs.{needs}
 use Rattle.sparkle.specs.Sparkle.{rcon}
@@ -15,17 +13,15 @@ ell-of-xor-requires c κs = above-refl 16 (c .before .before .before .before .be
 
 returns : tie.Need-returns
 unfolding rcon joined
-returns c =
-    let s = c .before .before .before .before .before .before .before .before .before .before .before .before .before .before .before .before .before .before .before .before .before in
-    let number = s .args .s in
+returns c number is-row =
+    let s = c .before .before .before .before .before .before .before .before .before .before .before .before .before .before .before .before .before .before .before .before in
     let g = s .args .g in
     let low = c .before .before .before .before .before .before .before .before .before .before .before .before .before .before .low-boxes in
     let high = c .before .before .before .before .before .before .before .before .before .before .before .before .before .high-boxes in
     let b = c .before .before .before .before .before .before .before .before .before .before .before .before .before .before .before .xor4 in
     step-lanes number g (b .result) (low .result .x) (low .result .y) (high .result .x) (high .result .y)
-    (c .before .before .before .xor43 .result) (c .xor45 .result) (s .fits .s .fits)
-    (b .ensures
-    ∙ ap (λ (n : ℕ). lanes2 bitXor (g .s1357) (n ∷ (number ∷ (0 ∷ (0 ∷ []))))) (c .before .before .before .before .before .before .before .before .before .before .before .before .before .before .before .before .round-constant .ensures))
+    (c .before .before .before .xor43 .result) (c .xor45 .result)
+    (b .ensures ∙ ap (lanes2 bitXor (g .s1357)) is-row)
     (low .ensures .0) (low .ensures .1) (high .ensures .0) (high .ensures .1)
     (c .before .before .before .xor43 .ensures
     ∙ ap₂ (lanes2 bitXor) (c .before .before .before .before .before .before .ell-of-xor2 .ensures)
@@ -35,4 +31,4 @@ returns c =
     (c .before .shuffle42 .ensures ∙ ap (shuffled 0x39) (c .before .before .xor44 .ensures)))
 
 pub step16-spec : {M : Type 1} → statement M
-step16-spec = tie.close (tie.spec (λ c κs. search needs) (λ c κs. search needs) (λ c κs. search needs) (λ c κs. search needs) ell-of-xor-requires (λ c κs. search needs) (λ c κs. search needs) (λ c κs. search needs) (λ c κs. search needs) (λ c κs. search needs) (λ c κs. search needs) (λ c κs. search needs) returns)
+step16-spec = tie.close (tie.spec (λ c κs. search needs) (λ c κs. search needs) (λ c κs. search needs) ell-of-xor-requires (λ c κs. search needs) (λ c κs. search needs) (λ c κs. search needs) (λ c κs. search needs) (λ c κs. search needs) (λ c κs. search needs) (λ c κs. search needs) returns)
