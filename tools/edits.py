@@ -51,6 +51,7 @@ MARKS = r"(?:(?:abbrev|unfoldable|opaque|pub) )*"
 NAME = r"(?:«[^»]+»|" + WORD + r"|_[^\s(){}]+_)"
 DECLARED = re.compile(r" *" + MARKS + r"(?:(?:data|record) (" + NAME + r")(?: .*)?|(" + NAME + r"(?: " + NAME + r")*)) :(?: |$)")
 IMPORT = re.compile(r" *(?:pub )?(?:ghost )?(?:use|mod) ")
+OTHERS = re.compile(r"(?m)^(?:ghost )?use Rattle·\w+\.[\w.]+\.\{([^}]*)\}")
 MARKED = re.compile(r" *(?:pub )?(?:abbrev|unfoldable|opaque|data|record) ")
 
 
@@ -59,6 +60,12 @@ def words(text):
     text = re.sub(r"(?m)--.*$|//.*$", "", text)
     text = re.sub(r"(?<=[\s(])\.[\w«»'-]+", " ", text)
     return set(re.findall(r"(?<![\w'-])" + WORD, text)) | set(re.findall(r"[^\s\w(){}\[\],;.:«»'\"]+", text))
+
+
+def of_others(text):
+    """The names that a file of code takes from another crate's specifications, by their own names: in its contracts
+    they are no definition of this crate, whatever is called so here."""
+    return {name.strip() for names in OTHERS.findall(text) for name in names.split(",") if " as " not in name}
 
 
 def indent(line):
@@ -78,11 +85,11 @@ class Crate:
                     with open(path, encoding="utf-8") as file:
                         self.files[path.split("/", 2)[2]] = file.read()
         for path, text in self.files.items():
-            (self.read_code if path.endswith(".rt") else self.read_text)(path, text.splitlines())
+            (self.read_code if path.endswith(".rt") else self.read_text)(path, text.splitlines(), of_others(text))
             for old, new in re.findall(r"(" + WORD + r") as (" + WORD + r")", text):
                 self.renamed.setdefault(new, set()).add(old)
 
-    def read_code(self, path, lines):
+    def read_code(self, path, lines, others):
         """Each function's contract and body. What stands outside them belongs to the file."""
         module = path.removeprefix("src/").removesuffix(".rt")
         module = "" if module in ("lib", "main") else module + "/"
@@ -95,7 +102,7 @@ class Crate:
                 kind = ""
             if place is None and found:
                 closing, place = found.group(1) + "}", module + (kind if found.group(1) else "") + found.group(2)
-                self.functions[place] = {"contract": "", "body": ""}
+                self.functions[place] = {"contract": "", "body": "", "others": others}
             if place is None:
                 self.owners[path, number] = [] if IMPORT.match(line) else [("file", path)]
                 continue
@@ -107,7 +114,7 @@ class Crate:
             if line == closing:
                 place = None
 
-    def read_text(self, path, lines):
+    def read_text(self, path, lines, _):
         """The definitions of a file: every declaration of specs/, and of proofs/ those that are marked as one. A
         line belongs to all the declarations that it stands in."""
         around = []  # the declarations around a line: depth, names, whether they are definitions
@@ -145,14 +152,18 @@ class Crate:
                 text += "\n" + "\n".join(lines[number : end + 1])
         return text
 
-    def leads_to(self, text):
-        """The definitions that a text leads to."""
-        todo, seen = words(text), set()
+    def leads_to(self, names):
+        """The definitions that names lead to."""
+        todo, seen = set(names), set()
         while todo:
             word = todo.pop()
             seen.add(word)
             todo |= (words(self.definitions.get(word, "")) | self.renamed.get(word, set())) - seen
         return {("definition", word) for word in seen if word in self.definitions}
+
+    def cited(self, place):
+        """The names in a function's contract, without those that are another crate's."""
+        return words(self.functions[place]["contract"]) - self.functions[place]["others"]
 
     def called(self, place):
         """The functions that one calls, by the last part of their names."""
@@ -164,13 +175,13 @@ class Crate:
         contracts of what it calls. None where there is no such place."""
         if ":" in place:
             text = self.law(*place.split(":", 1))
-            return text and self.leads_to(text)
+            return text and self.leads_to(words(text))
         if place not in self.functions:
             return None
         called, own = self.called(place), self.functions[place]
-        text = own["contract"] + own["body"] + "".join(self.functions[other]["contract"] for other in called)
+        names = words(own["body"]).union(*(self.cited(one) for one in {place} | called))
         found = {("body", place), ("contract", place), *(("contract", other) for other in called)}
-        return found | self.leads_to(text) | {("file", path) for path in self.files if path.endswith(".rt")}
+        return found | self.leads_to(names) | {("file", path) for path in self.files if path.endswith(".rt")}
 
     def below(self, place):
         """The functions that one calls, those that these call, and so on."""

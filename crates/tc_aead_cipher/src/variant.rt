@@ -61,19 +61,15 @@ impl SparkleVariant {
         }
     }
 
-    // From an array, so that the compiler does not know that there are steps: where it does, it drops
-    // the test for none in `run_groups`, and makes scalar instructions of a part of that function.
     pub fn big_steps(self) -> u32
         ensures { λ r. ⌜ r ≡ paramsOf self .big ⌝ }
     {
-        let steps = [10u32, 11, 12];
-        let k = match self {
-            SparkleVariant::Schwaemm128_128 => 0,
-            SparkleVariant::Schwaemm256_128 => 1,
-            SparkleVariant::Schwaemm192_192 => 1,
-            SparkleVariant::Schwaemm256_256 => 2,
-        };
-        steps[k]
+        match self {
+            SparkleVariant::Schwaemm128_128 => 10,
+            SparkleVariant::Schwaemm256_128 => 11,
+            SparkleVariant::Schwaemm192_192 => 11,
+            SparkleVariant::Schwaemm256_256 => 12,
+        }
     }
 }
 

@@ -22,6 +22,14 @@ bufferedCount-bound p h (Aad d) n = omega arith
 bufferedCount-bound p h (Data d) n = omega (arith, keep-bound p (Data d))
 bufferedCount-bound p h (Final d) n = omega arith
 
+-- of the header at most a block, of the data at most a block and a tag
+pub bufferedCount-blocks : (p : Params) (phase : Phase) (n : ℕ) → bufferedCount p phase n ≤ p .rate + p .key
+bufferedCount-blocks p Uninitialized n = omega arith
+bufferedCount-blocks p (Init d) n = omega arith
+bufferedCount-blocks p (Aad d) n = omega arith
+bufferedCount-blocks p (Data d) n = omega (arith, keep-bound p (Data d))
+bufferedCount-blocks p (Final d) n = omega arith
+
 -- the stream from the code's own held count
 pub stream-is : (p : Params) (at : Point) (input : List ℕ) (h : ℕ) → h ≡ bufferedCount p (at .phase) (at .held) → take h (at .buffer) ++ input ≡ stream p at input
 unfolding stream buffered

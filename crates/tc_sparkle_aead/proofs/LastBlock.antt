@@ -1,16 +1,17 @@
--- The last block in the engine's arrays: its padding, the domain constant in the state, and that both make `mixLast`.
-use mathlib.Core.Path.{_≡_, sym, ap, _∙_}
+-- The last block in the engine's arrays: its padding, and that it makes `mixLast` of the state.
+use mathlib.Core.Path.{_≡_, refl, _∙_}
+use mathlib.Core.Bool.{true, false}
 use mathlib.Core.List.{List, _∷_, _++_, append-assoc}
 use Prim.Native.Nat.{ℕ, suc, _+_, _-_, _<_}
 use native.Mathlib.Omega.{arith}
-use lib.ListN.{length, take, drop, getD, set, replicate, length-append, length-replicate, take-append-drop, replicate-append-replicate}
-use lib.Seq.{length-take-le, set-at, set-append-left, getD-take}
-use lib.Bits.{bitXor}
-use Rattle.schwaemm.specs.Schwaemm.{Params, Sizes, mix, padded, domain, withDomain, lastV, mixLast}
-use Rattle.schwaemm.proofs.States.{stateLength, length-padded, padded-short, length-withDomain}
-use Rattle.tc_sparkle_aead.specs.Message.{inArray, stateIn, putState}
+use lib.ListN.{length, set, replicate, length-append, length-replicate, replicate-append-replicate}
+use lib.Seq.{set-at}
+use Rattle.schwaemm.specs.Blocks.{after}
+use Rattle.schwaemm.specs.Schwaemm.{Params, Sizes, padded, domain, withDomain, lastV, mixLast, sealing}
+use Rattle.schwaemm.proofs.States.{length-padded, padded-short}
+use Rattle.tc_sparkle_aead.specs.Message.{inArray, stateIn, putState, plainBy, xorLast, blockStep}
 use Rattle.tc_aead_cipher.proofs.VariantLaws.{Small}
-use Rattle.tc_sparkle_aead.proofs.StateLaws.{all-inArray, inArray-zeros, state-put, put-put, state-fits, length-stateIn}
+use Rattle.tc_sparkle_aead.proofs.StateLaws.{all-inArray, inArray-zeros}
 
 module _ (p : Params) (h : Sizes p) (f : Small p) where
   -- byte 80 behind a short block
@@ -32,37 +33,10 @@ module _ (p : Params) (h : Sizes p) (f : Small p) where
         behind,
       )
 
-  -- the constant in the last word of the state
-  pub put-domain : (words : List ℕ) (v i : ℕ) → length words ≡ 16 → i ≡ stateLength p - 1
-      → set words i (bitXor (getD words i 0) (domain p v)) ≡ putState p words (withDomain p v (stateIn p words))
-  unfolding stateIn putState withDomain
-  put-domain words v i hw e =
-      let n = stateLength p in
-      let fits = state-fits p h f in
-      let s = take n words in
-      let x = bitXor (getD words i 0) (domain p v) in
-      let whole = length-take-le n words (omega arith) in
-      let some : 0 < n = omega arith in
-      let word = getD-take n words i 0 (omega arith) in
-      ap (λ (l : List ℕ). set l i x) (sym (take-append-drop n words))
-      ∙ set-append-left s (drop n words) i x (omega arith) ∙ rw (← e, word)
-
   -- the last block is taken up
-  pub put-mixLast : (words words′ block b r : List ℕ) (v steps short : ℕ) → length words ≡ 16
-      → words′ ≡ putState p words (withDomain p v (stateIn p words))
-      → block ≡ inArray 64 (padded p b) → steps ≡ p .big → v ≡ lastV p short b
-      → r ≡ putState p words′ (mix p steps (stateIn p words′) (take (p .rate) block))
+  pub last-block : (words block b r : List ℕ) (v c short : ℕ) → block ≡ inArray 64 (padded p b) → c ≡ domain p v → v ≡ lastV p short b
+      → r ≡ putState p words (after (p .rate) (blockStep p true false) 1 (xorLast p c (stateIn p words)) block)
       → r ≡ putState p words (mixLast p short (stateIn p words) b)
-  unfolding mixLast
-  put-mixLast words words′ block b r v steps short hw ew eb es ev er =
-      let s = withDomain p v (stateIn p words) in
-      let hs = length-withDomain p v (stateIn p words) ∙ length-stateIn p h f words hw in
-      er ∙ rw (
-        ew,
-        put-put p words s _ hs,
-        state-put p words s hs,
-        eb,
-        all-inArray (p .rate) 64 (padded p b) (length-padded p b) (omega arith),
-        es,
-        ev,
-      )
+  unfolding mixLast withDomain xorLast after blockStep plainBy sealing
+  last-block words block b r v c short eb ec ev er =
+      er ∙ rw (eb, all-inArray (p .rate) 64 (padded p b) (length-padded p b) (omega arith), ec, ev) refl

@@ -1,71 +1,34 @@
--- A block and the state in the engine's array of words: what `mix` and `crypt` make of them, word by word and byte by
--- byte, and the array with another state.
+-- A block and the state: what `xors` of their words writes, and that the words which a block makes of the state under a
+-- mask are those that the specification permutes.
 use mathlib.Core.Path.{_≡_, refl, sym, ap, ap₂, _∙_}
-use mathlib.Core.Bool.{Bool, true, false, cond}
-use mathlib.Core.List.{List, _++_, append-assoc}
-use Prim.Native.Nat.{ℕ, _+_, _-_, _*_, _/_, _≤_, _<_}
+use mathlib.Core.Bool.{Bool, true, false}
+use mathlib.Core.List.{List, [], _∷_, _++_}
+use Prim.Native.Nat.{ℕ, _+_, _*_, _/_, _^_, _≤_, _<_}
+use native.Mathlib.Nat.{mod-eq-of-lt}
 use native.Mathlib.Omega.{arith}
-use borrow.Author.Tests.{ltb-true, ltb-false}
 use lib.Dec.{ltb}
-use lib.Bits.{bitXor}
-use lib.ListN.{length, take, drop, getD, set, length-take, length-drop, length-append, take-append-drop, List·getD-append}
-use lib.Seq.{take-take, take-all, length-take-le, drop-append-le, getD-take, getD-drop, getD-append-add}
-use Rattle.sparkle.specs.Sparkle.{xors}
-use Rattle.sparkle.proofs.Lengths.{length-xors}
+use lib.Bits.{bitXor, bitAnd, xor-comm, xor-zero-r, and-mask, and-zero-r}
+use lib.ListN.{length, take, getD, length-take}
+use lib.Seq.{take-take, take-all, length-take-le}
+use Rattle.sparkle.specs.Words.{Below, Words, Bytes}
+use Rattle.sparkle.specs.Sparkle.{run, sparkle, xors}
+use Rattle.sparkle.specs.declared.sse2.Groups.{Groups}
+use Rattle.sparkle.specs.Lanes.{lanes2, shuffled, pairs, joined}
+use Rattle.sparkle.proofs.Xor.{xor-assoc, xor-cancel}
+use Rattle.sparkle.proofs.Below.{below-at, below-take, below-xors}
+use Rattle.sparkle.proofs.Tab.{tabbed}
 use Rattle.schwaemm.specs.Bytes.{toWords, toBytes}
-use Rattle.schwaemm.specs.Schwaemm.{Params, Sizes, outer, inner, permute, feistelSwap, rho1, whitening, mix, crypt}
-use Rattle.schwaemm.proofs.ByteWords.{toWords-take, toBytes-take, toBytes-xors}
-use Rattle.schwaemm.proofs.Xors.{xors-enough, xors-at, xors-take}
-use Rattle.schwaemm.proofs.States.{stateLength, mixed, mix-mixed, mix-exact, length-outer, length-inner}
-use Rattle.tc_sparkle_aead.specs.Message.{stateIn, putState, feedbackAt, whiteningAt}
-use Rattle.tc_sparkle_aead.proofs.Fill.{laid, laid-turn}
-use Rattle.tc_sparkle_aead.proofs.StateLaws.{state-length, state-put, put-put}
-
--- Words of the feedback and of the whitening, each by whether it is one of the first list's; l and c stand in `words`.
-fed-by : (words l : List ℕ) (h k : ℕ) → length l ≡ h + h → ((j : ℕ) → j < h + h → getD l j 0 ≡ getD words j 0)
-    → k < h + h → (t : Bool) → ltb k h ≡ t
-    → getD (drop h l ++ xors (drop h l) (take h l)) k 0
-    ≡ cond t (getD words (k + h) 0) (bitXor (getD words k 0) (getD words (k - h) 0))
-fed-by words l h k e at i true t =
-    let low = ltb-true k h t in
-    let n : length (drop h l) ≡ h = simp length-drop (omega arith) in
-    let o : h + k ≡ k + h = omega arith in
-    List·getD-append (drop h l) (xors (drop h l) (take h l)) 0 k (omega arith) ∙ getD-drop h l k 0
-    ∙ at (h + k) (omega arith) ∙ ap (λ (j : ℕ). getD words j 0) o
-fed-by words l h k e at i false t =
-    let high = ltb-false k h t in
-    let n : length (drop h l) ≡ h = simp length-drop (omega arith) in
-    let m : length (take h l) ≡ h = simp length-take (omega arith) in
-    let o : k ≡ length (drop h l) + (k - h) = omega arith in
-    let q : h + (k - h) ≡ k = omega arith in
-    ap (λ (j : ℕ). getD (drop h l ++ xors (drop h l) (take h l)) j 0) o
-    ∙ getD-append-add (drop h l) (xors (drop h l) (take h l)) (k - h) 0
-    ∙ xors-at (drop h l) (take h l) (k - h) (omega arith) (omega arith)
-    ∙ ap₂ bitXor (getD-drop h l (k - h) 0 ∙ ap (λ (j : ℕ). getD l j 0) q ∙ at k i)
-    (getD-take h l (k - h) 0 (omega arith) ∙ at (k - h) (omega arith))
-
-white-by : (words c : List ℕ) (r n k : ℕ) → length c ≡ n → ((j : ℕ) → j < n → getD c j 0 ≡ getD words (r + j) 0)
-    → k < n + n → (t : Bool) → ltb k n ≡ t
-    → getD (c ++ c) k 0 ≡ cond t (getD words (r + k) 0) (getD words (r + (k - n)) 0)
-white-by words c r n k e at i true t =
-    let low = ltb-true k n t in
-    List·getD-append c c 0 k (omega arith) ∙ at k low
-white-by words c r n k e at i false t =
-    let high = ltb-false k n t in
-    let o : k ≡ length c + (k - n) = omega arith in
-    ap (λ (j : ℕ). getD (c ++ c) j 0) o ∙ getD-append-add c c (k - n) 0 ∙ at (k - n) (omega arith)
+use Rattle.schwaemm.specs.Schwaemm.{Params, Sizes, schwaemm256-256, outer, inner, permute, feistelSwap, rho1, whitening, mix, crypt, sealing, opening}
+use Rattle.schwaemm.proofs.ByteWords.{bytes-toBytes, toWords-toBytes, toBytes-take, toBytes-xors, length-toBytes}
+use Rattle.schwaemm.proofs.Xors.{xors-enough, xors-take}
+use Rattle.schwaemm.proofs.States.{stateLength, mixed, mix-mixed, mix-state, length-crypt}
+use Rattle.tc_sparkle_aead.specs.Message.{stateIn, plainBy, maskOf, masked, xorBlock}
 
 -- The parts of the state in an array, and what the bytes of a block become.
 module _ (p : Params) (z : Sizes p) (words : List ℕ) where
   outer-in : outer p (stateIn p words) ≡ take (p .rate / 4) words
   unfolding outer stateIn
   outer-in = take-take (p .rate / 4) (stateLength p) words (omega arith)
-
-  inner-at : (k : ℕ) → k < p .key / 4 → getD (inner p (stateIn p words)) k 0 ≡ getD words (p .rate / 4 + k) 0
-  unfolding inner stateIn
-  inner-at k i =
-      getD-drop (p .rate / 4) (take (stateLength p) words) k 0
-      ∙ getD-take (stateLength p) words (p .rate / 4 + k) 0 (omega arith)
 
   pub crypt-in : (b : List ℕ) → length b ≤ p .rate → crypt p (stateIn p words) b ≡ xors (toBytes words) b
   unfolding crypt
@@ -85,106 +48,115 @@ module _ (p : Params) (z : Sizes p) (words : List ℕ) where
       ∙ xors-enough (p .rate) (toBytes words) block (omega arith)
       ∙ sym (crypt-in block (omega arith))
 
--- Words of the feedback and of the whitening, in an array of at least the state's words.
-module _ (p : Params) (z : Sizes p) (words : List ℕ) (h : stateLength p ≤ length words) where
-  fed-at : (k : ℕ) → k < p .rate / 4 → getD (feistelSwap p (outer p (stateIn p words))) k 0 ≡ feedbackAt words (p .rate / 8) k
-  unfolding feistelSwap feedbackAt
-  fed-at k i =
-      let n : p .rate / 8 + p .rate / 8 ≡ p .rate / 4 = omega arith in
-      fed-by words (outer p (stateIn p words)) (p .rate / 8) k
-      (length-outer p z (stateIn p words) (state-length p words h) ∙ sym n)
-      (λ j l. rw (outer-in p z words) (getD-take (p .rate / 4) words j 0 (omega arith)))
-      (omega arith) (ltb k (p .rate / 8)) refl
+-- ---- The mask
 
-  white-at : (k : ℕ) → k < p .rate / 4 → getD (whitening p (inner p (stateIn p words))) k 0 ≡ whiteningAt words (p .rate / 4) (p .key / 4) k
-  unfolding whitening whiteningAt
-  white-at k i =
-      let c = inner p (stateIn p words) in
-      getD-take (p .rate / 4) (c ++ c) k 0 i
-      ∙ white-by words c (p .rate / 4) (p .key / 4) k (length-inner p z (stateIn p words) (state-length p words h))
-      (inner-at p z words)
-      (omega arith) (ltb k (p .key / 4)) refl
+-- what all ones leave of a word
+all-left : (x : ℕ) → x < 2 ^ 32 → bitAnd x 0xffffffff ≡ x
+all-left x h = and-mask x 32 ∙ mod-eq-of-lt h
 
--- the rate's words of a block that is xorBlock up by the state
-unfoldable pub xorBlock : Params → List ℕ → List ℕ → List ℕ
-xorBlock p s b = xors (rho1 p (outer p s) (toWords b)) (whitening p (inner p s))
+-- under no mask the block's words; under all ones those xored with the state's
+masked-none : (s b : List ℕ) → length b ≤ length s → masked 0 s b ≡ b
+unfolding masked
+masked-none [] [] h = refl
+masked-none [] (y ∷ b) h = absurd (omega arith)
+masked-none (x ∷ s) [] h = refl
+masked-none (x ∷ s) (y ∷ b) h =
+    ap₂ _∷_ (ap (bitXor y) (and-zero-r x) ∙ xor-zero-r y) (masked-none s b (omega arith))
 
-module _ (p : Params) (z : Sizes p) (words block : List ℕ) (h : stateLength p ≤ length words) (b : p .rate ≤ length block) where
-  length-mixed : length (mixed p (stateIn p words) (take (p .rate) block)) ≡ stateLength p
-  length-mixed =
-      mix-exact p z (stateIn p words) (state-length p words h) (take (p .rate) block)
-      (length-take-le (p .rate) block b)
+masked-all : {s : List ℕ} (b : List ℕ) → Words s → masked 0xffffffff s b ≡ xors s b
+unfolding masked xors
+masked-all b Below.none = refl
+masked-all [] (Below.more h hs) = refl
+masked-all (y ∷ b) (Below.more {x} h hs) =
+    ap₂ _∷_ (ap (bitXor y) (all-left x h) ∙ xor-comm y x) (masked-all b hs)
 
-  length-taken : length (xorBlock p (stateIn p words) (take (p .rate) block)) ≡ p .rate / 4
-  unfolding xorBlock
-  length-taken =
-      let i = length-inner p z (stateIn p words) (state-length p words h) in
-      omega (arith, simp length-append at length-mixed)
+-- A state and the words of a block, as many as the rate has at least.
+module _ (p : Params) (z : Sizes p) (s b : List ℕ) (hs : length s ≡ stateLength p) (ws : Words s) (wb : Words b)
+    (enough : p .rate / 4 ≤ length b) (fits : length b ≤ length s) where
+  -- the first words of a list as bytes, and as words again
+  words-of-rate : (w : List ℕ) → Words w → toWords (take (p .rate) (toBytes w)) ≡ take (p .rate / 4) w
+  words-of-rate w h =
+      let e : p .rate / 4 * 4 ≡ p .rate = omega (arith, z) in
+      ap (λ (n : ℕ). toWords (take n (toBytes w))) (sym e) ∙ ap toWords (toBytes-take (p .rate / 4) w)
+      ∙ toWords-toBytes (below-take (p .rate / 4) h)
 
-  word-in : (k : ℕ) → k < p .rate / 4 → getD (toWords (take (p .rate) block)) k 0 ≡ getD (toWords block) k 0
-  word-in k i =
-      let e : p .rate / 4 * 4 ≡ p .rate = omega arith in
-      ap (λ (n : ℕ). getD (toWords (take n block)) k 0) (sym e)
-      ∙ ap (λ (w : List ℕ). getD w k 0) (sym (toWords-take (p .rate / 4) block))
-      ∙ getD-take (p .rate / 4) (toWords block) k 0 i
+  -- what the block becomes, in bytes
+  pub crypt-state : take (p .rate) (toBytes (xors s b)) ≡ crypt p s (take (p .rate) (toBytes b))
+  unfolding stateIn
+  crypt-state =
+      crypt-words p z s b ∙ ap (λ (u : List ℕ). crypt p u (take (p .rate) (toBytes b))) (take-all (stateLength p) s (omega arith))
 
-  taken-at : (k : ℕ) → k < p .rate / 4
-      → bitXor (bitXor (feedbackAt words (p .rate / 8) k) (getD (toWords block) k 0)) (whiteningAt words (p .rate / 4) (p .key / 4) k)
-      ≡ getD (xorBlock p (stateIn p words) (take (p .rate) block)) k 0
-  unfolding xorBlock rho1
-  taken-at k i =
-      let s = stateIn p words in
-      let f = feistelSwap p (outer p s) in
-      let w = toWords (take (p .rate) block) in
-      let x = whitening p (inner p s) in
-      let m = sym (length-xors (xors f w) x) ∙ length-taken in
-      let n = length-xors f w in
-      sym (xors-at (xors f w) x k (omega arith) (omega arith)
-      ∙ ap₂ bitXor
-      (xors-at f w k (omega arith) (omega arith) ∙ ap₂ bitXor (fed-at p z words h k i) (word-in k i))
-      (white-at p z words h k i))
+  length-block : length (take (p .rate) (toBytes b)) ≡ p .rate
+  length-block = length-take-le (p .rate) (toBytes b) (omega (arith, z, length-toBytes b))
 
-  -- a turn of the loop that lays them over the array, in the loop's terms
-  pub xorBlock-turn : {rate key half k fed word white : ℕ} {v : List ℕ}
-      → v ≡ laid (xorBlock p (stateIn p words) (take (p .rate) block)) words k
-      → fed ≡ feedbackAt words half k
-      → word ≡ getD (toWords block) k 0
-      → white ≡ whiteningAt words rate key k
-      → rate ≡ p .rate / 4
-      → key ≡ p .key / 4
-      → half ≡ p .rate / 8
-      → k < rate
-      → set v k (bitXor (bitXor fed word) white) ≡ laid (xorBlock p (stateIn p words) (take (p .rate) block)) words (k + 1)
-  xorBlock-turn {k = k} e f w x er ek eh i =
-      let n = length-taken in
-      laid-turn _ words e
-      (rw (f, w, x, er, ek, eh) (taken-at k (omega arith)))
-      (omega arith) (omega arith)
+  -- the words that the state takes up
+  plain-words : (opens : Bool) (mask : ℕ) → mask ≡ maskOf opens
+      → toWords (plainBy p opens s (take (p .rate) (toBytes b))) ≡ take (p .rate / 4) (masked mask s b)
+  unfolding plainBy maskOf sealing opening
+  plain-words false mask e =
+      words-of-rate b wb ∙ ap (take (p .rate / 4)) (sym (ap (λ (m : ℕ). masked m s b) e ∙ masked-none s b fits))
+  plain-words true mask e =
+      ap toWords (sym crypt-state) ∙ words-of-rate (xors s b) (below-xors ws wb)
+      ∙ ap (take (p .rate / 4)) (sym (ap (λ (m : ℕ). masked m s b) e ∙ masked-all b ws))
 
-  -- the array once the rate's words are laid over it is the one that is permuted
-  taken-end : {v : List ℕ} → v ≡ laid (xorBlock p (stateIn p words) (take (p .rate) block)) words (p .rate / 4)
-      → v ≡ putState p words (mixed p (stateIn p words) (take (p .rate) block))
-  unfolding laid putState xorBlock stateIn inner
-  taken-end e =
-      let front = xorBlock p (stateIn p words) (take (p .rate) block) in
-      let r = p .rate / 4 in
-      let s = stateIn p words in
-      let rest = drop (stateLength p) words in
-      let n = state-length p words h in
-      let t = length-taken in
-      e ∙ ap₂ (λ (x y : List ℕ). x ++ y) (take-all r front (omega arith))
-      (ap (drop r) (sym (take-append-drop (stateLength p) words)) ∙ drop-append-le r s rest (omega arith))
-      ∙ sym (append-assoc front (inner p s) rest)
+  length-plain : (opens : Bool) → length (plainBy p opens s (take (p .rate) (toBytes b))) ≡ p .rate
+  unfolding plainBy sealing opening
+  length-plain false = length-block
+  length-plain true = length-crypt p z s hs (take (p .rate) (toBytes b)) ∙ omega (arith, length-block)
 
-  pub mix-end : (steps : ℕ) {n : ℕ} {v result : List ℕ}
-      → v ≡ laid (xorBlock p (stateIn p words) (take (p .rate) block)) words n
-      → result ≡ putState p v (permute p steps (stateIn p v))
-      → n ≡ p .rate / 4
-      → result ≡ putState p words (mix p steps (stateIn p words) (take (p .rate) block))
-  mix-end k e f i =
-      let s = stateIn p words in
-      let m = mixed p s (take (p .rate) block) in
-      f ∙ ap (λ (u : List ℕ). putState p u (permute p k (stateIn p u))) (taken-end (rw i at e))
-      ∙ put-put p words m (permute p k (stateIn p (putState p words m))) length-mixed
-      ∙ ap (λ (u : List ℕ). putState p words (permute p k u)) (state-put p words m length-mixed)
-      ∙ ap (putState p words) (sym (mix-mixed p k s (take (p .rate) block)))
+  bytes-plain : (opens : Bool) → Bytes (plainBy p opens s (take (p .rate) (toBytes b)))
+  unfolding plainBy sealing opening crypt
+  bytes-plain false = below-take (p .rate) (bytes-toBytes b)
+  bytes-plain true = below-xors (bytes-toBytes (outer p s)) (below-take (p .rate) (bytes-toBytes b))
+
+  -- they are permuted as the specification's
+  pub mix-block : (opens : Bool) (mask steps : ℕ) → mask ≡ maskOf opens
+      → run ((p .rate + p .key) / 8) 0 steps (xorBlock p mask s b) ≡ mix p steps s (plainBy p opens s (take (p .rate) (toBytes b)))
+  unfolding xorBlock permute sparkle
+  mix-block opens mask steps e =
+      let block = plainBy p opens s (take (p .rate) (toBytes b)) in
+      let same : xorBlock p mask s b ≡ mixed p s block =
+      ap (λ (w : List ℕ). xors (rho1 p (outer p s) w) (whitening p (inner p s)) ++ inner p s) (sym (plain-words opens mask e)) in
+      ap (run ((p .rate + p .key) / 8) 0 steps)
+      (same ∙ sym (mix-state p z s block hs (length-plain opens) ws (bytes-plain opens)))
+      ∙ sym (mix-mixed p steps s block)
+
+-- ---- Four groups
+
+-- a word of the rate's right half, which the lane's mask leaves exactly where the mask does not
+other-mask : (opens : Bool) (mask x y e : ℕ) → mask ≡ maskOf opens → x < 2 ^ 32
+    → bitXor y (bitXor e (bitAnd x (bitXor mask 0xffffffff))) ≡ bitXor (bitXor x y) (bitXor e (bitAnd x mask))
+unfolding maskOf
+other-mask false mask x y e h hx =
+    ap (λ (m : ℕ). bitXor y (bitXor e (bitAnd x (bitXor m 0xffffffff)))) h
+    ∙ ap (λ (n : ℕ). bitXor y (bitXor e n)) (all-left x hx)
+    ∙ ap (bitXor y) (xor-comm e x) ∙ sym (xor-assoc y x e) ∙ ap (λ (n : ℕ). bitXor n e) (xor-comm y x)
+    ∙ ap (bitXor (bitXor x y)) (sym (ap (bitXor e) (ap (bitAnd x) h ∙ and-zero-r x) ∙ xor-zero-r e))
+other-mask true mask x y e h hx =
+    ap (λ (m : ℕ). bitXor y (bitXor e (bitAnd x (bitXor m 0xffffffff)))) h
+    ∙ ap (λ (n : ℕ). bitXor y (bitXor e n)) (and-zero-r x)
+    ∙ ap (bitXor y) (xor-zero-r e) ∙ sym (ap (λ (n : ℕ). bitXor y n) (xor-cancel e x))
+    ∙ ap (bitXor y) (xor-comm (bitXor e x) x) ∙ sym (xor-assoc y x (bitXor e x))
+    ∙ ap₂ bitXor (xor-comm y x) (ap (bitXor e) (sym (ap (bitAnd x) h ∙ all-left x hx)))
+
+-- the lanes of the mask, and every other word of a block
+abbrev pub laneMask : ℕ → List ℕ
+laneMask mask = mask ∷ (mask ∷ (bitXor mask 0xffffffff ∷ (bitXor mask 0xffffffff ∷ [])))
+
+abbrev pub everyOther : ℕ → List ℕ → List ℕ
+everyOther i block = getD block i 0 ∷ (getD block (i + 2) 0 ∷ (getD block (i + 4) 0 ∷ (getD block (i + 6) 0 ∷ [])))
+
+-- a block and the groups, lane by lane
+pub mix-lanes : (g : Groups) (block x y : List ℕ) (mask : ℕ) → mask ≡ maskOf (ltb 0 mask) → Words (joined g) → length block ≡ 8
+    → x ≡ lanes2 bitXor (lanes2 bitXor (shuffled 0x4e (g .s0246)) (lanes2 bitXor (everyOther 0 block) (lanes2 bitAnd (g .s0246) (laneMask mask)))) (g .s8ace)
+    → y ≡ lanes2 bitXor (lanes2 bitXor (shuffled 0x4e (g .s1357)) (lanes2 bitXor (everyOther 1 block) (lanes2 bitAnd (g .s1357) (laneMask mask)))) (g .s9bdf)
+    → pairs x y ++ pairs (g .s8ace) (g .s9bdf) ≡ xorBlock schwaemm256-256 mask (joined g) block
+unfolding joined lanes2 shuffled xorBlock masked rho1 feistelSwap outer inner whitening xors
+mix-lanes g block x y mask em ws lb ex ey =
+    let a = g .s0246 in
+    let b = g .s1357 in
+    let c = g .s8ace in
+    let d = g .s9bdf in
+    ap₂ (λ (u v : List ℕ). pairs u v ++ pairs c d) ex ey
+    ∙ (λ k. bitXor (bitXor (getD a 2 0) (bitXor (getD block 0 0) (bitAnd (getD a 0 0) mask))) (getD c 0 0) ∷ (bitXor (bitXor (getD b 2 0) (bitXor (getD block 1 0) (bitAnd (getD b 0 0) mask))) (getD d 0 0) ∷ (bitXor (bitXor (getD a 3 0) (bitXor (getD block 2 0) (bitAnd (getD a 1 0) mask))) (getD c 1 0) ∷ (bitXor (bitXor (getD b 3 0) (bitXor (getD block 3 0) (bitAnd (getD b 1 0) mask))) (getD d 1 0) ∷ (bitXor (other-mask (ltb 0 mask) mask (getD a 2 0) (getD a 0 0) (getD block 4 0) em (below-at ws 4) k) (getD c 2 0) ∷ (bitXor (other-mask (ltb 0 mask) mask (getD b 2 0) (getD b 0 0) (getD block 5 0) em (below-at ws 5) k) (getD d 2 0) ∷ (bitXor (other-mask (ltb 0 mask) mask (getD a 3 0) (getD a 1 0) (getD block 6 0) em (below-at ws 6) k) (getD c 3 0) ∷ (bitXor (other-mask (ltb 0 mask) mask (getD b 3 0) (getD b 1 0) (getD block 7 0) em (below-at ws 7) k) (getD d 3 0) ∷ pairs c d))))))))
+    ∙ ap (xorBlock schwaemm256-256 mask (joined g)) (tabbed 8 block lb)

@@ -35,16 +35,16 @@ word-from b at k h =
     let w = toWords-at (drop at b) k (simp length-drop (omega arith)) in
     sym (rw (e1, e2, e3) at (rw (getD-drop at b (k * 4) 0, getD-drop at b (k * 4 + 1) 0, getD-drop at b (k * 4 + 2) 0, getD-drop at b (k * 4 + 3) 0) at w))
 
--- the first eight words
-module _ (b : List ℕ) (h : 32 ≤ length b) where
-  pub length-eight : length (toWords (take 32 b)) ≡ 8
-  length-eight =
-      let e = length-take-le 32 b h in
-      omega (arith, length-toWords (take 32 b) (omega arith))
+-- the first n words
+module _ (b : List ℕ) (n : ℕ) where
+  pub length-words : n * 4 ≤ length b → length (toWords (take (n * 4) b)) ≡ n
+  length-words h =
+      let e = length-take-le (n * 4) b h in
+      omega (arith, length-toWords (take (n * 4) b) (omega arith))
 
-  pub eight-at : (k : ℕ) → k < 8 → getD (toWords b) k 0 ≡ getD (toWords (take 32 b)) k 0
-  eight-at k i =
-      sym (ap (λ (w : List ℕ). getD w k 0) (sym (toWords-take 8 b)) ∙ getD-take 8 (toWords b) k 0 i)
+  pub word-of : (k : ℕ) → k < n → getD (toWords b) k 0 ≡ getD (toWords (take (n * 4) b)) k 0
+  word-of k i =
+      sym (ap (λ (w : List ℕ). getD w k 0) (sym (toWords-take n b)) ∙ getD-take n (toWords b) k 0 i)
 
 -- byte j of word k
 word-byte : (w : List ℕ) (k j n : ℕ) → j < 4 → n ≡ k * 4 + j → getD w k 0 / 2 ^ (8 * j) % 2 ^ 8 ≡ getD (toBytes w) n 0

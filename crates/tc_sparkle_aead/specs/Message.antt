@@ -3,10 +3,11 @@
 use Prim.Native.Nat.{ℕ, _+_, _-_, _*_, _/_, min}
 use mathlib.Core.Bool.{Bool, true, false, cond}
 use mathlib.Core.List.{List, _++_, [], _∷_}
-use lib.ListN.{take, replicate, length, drop, getD}
+use lib.ListN.{take, replicate, length, drop, getD, set}
 use lib.Dec.{ltb}
-use lib.Bits.{bitXor}
-use Rattle.schwaemm.specs.Schwaemm.{Params, crypt, mixLast, initialise, absorbBlock, sealing as sealingBlock, opening as openingBlock, messageBlock, tagOf}
+use lib.Bits.{bitXor, bitAnd}
+use Rattle.sparkle.specs.Sparkle.{xors}
+use Rattle.schwaemm.specs.Schwaemm.{Params, schwaemm256-128, schwaemm192-192, outer, inner, rho1, whitening, mix, crypt, mixLast, initialise, absorbBlock, sealing as sealingBlock, opening as openingBlock, messageBlock, tagOf}
 use Rattle.schwaemm.specs.Bytes.{ifEmpty, same}
 use Rattle.schwaemm.specs.Blocks.{ready, after, given, held}
 use Rattle.tc_aead_cipher.specs.declared.phase.Phase.the-variants.{Uninitialized, Init, Aad, Data, Final}
@@ -47,14 +48,6 @@ stateIn p words = take ((p .rate + p .key) / 4) words
 
 unfoldable pub putState : Params → List ℕ → List ℕ → List ℕ
 putState p words s = s ++ drop ((p .rate + p .key) / 4) words
-
--- Word k of the feedback and of the whitening, in a point's array of words; half, rate and key are in words.
-unfoldable pub feedbackAt : List ℕ → ℕ → ℕ → ℕ
-feedbackAt words half k =
-    cond (ltb k half) (getD words (k + half) 0) (bitXor (getD words k 0) (getD words (k - half) 0))
-
-unfoldable pub whiteningAt : List ℕ → ℕ → ℕ → ℕ → ℕ
-whiteningAt words rate key k = cond (ltb k key) (getD words (rate + k) 0) (getD words (rate + (k - key)) 0)
 
 -- How many bytes a phase holds: of the header at most a block, of the data as document 01's h says.
 abbrev pub bufferedCount : Params → Phase → ℕ → ℕ
@@ -140,6 +133,51 @@ plainBy p opens = cond opens (openingBlock p) (sealingBlock p)
 
 unfoldable pub plainOf : Params → Phase → List ℕ → List ℕ → List ℕ
 plainOf p phase = plainBy p (opening phase)
+
+-- ---- Blocks
+
+-- The mask of a block: all ones where the state takes up what the block becomes.
+unfoldable pub maskOf : Bool → ℕ
+maskOf opens = cond opens 0xffffffff 0
+
+-- The words of a block, each xored with the word of the state that the mask leaves.
+unfoldable pub masked : ℕ → List ℕ → List ℕ → List ℕ
+masked mask [] block = []
+masked mask (x ∷ s) [] = []
+masked mask (x ∷ s) (b ∷ block) = bitXor b (bitAnd x mask) ∷ masked mask s block
+
+-- The words that are permuted when a block is taken up under a mask.
+unfoldable pub xorBlock : Params → ℕ → List ℕ → List ℕ → List ℕ
+xorBlock p mask s block =
+    xors (rho1 p (outer p s) (take (p .rate / 4) (masked mask s block))) (whitening p (inner p s)) ++ inner p s
+
+-- A state with a number xored into its last word.
+unfoldable pub xorLast : Params → ℕ → List ℕ → List ℕ
+xorLast p x s = set s ((p .rate + p .key) / 4 - 1) (bitXor (getD s ((p .rate + p .key) / 4 - 1) 0) x)
+
+-- The two variants with a state of 12 words.
+unfoldable pub wideParams : Bool → Params
+wideParams wide = cond wide schwaemm256-128 schwaemm192-192
+
+-- What a block makes of the state, with slim or big steps behind it.
+unfoldable pub blockStep : Params → (big opens : Bool) → List ℕ → List ℕ → List ℕ
+blockStep p big opens s block = mix p (cond big (p .big) (p .slim)) s (plainBy p opens s block)
+
+-- An output that what `count` blocks of the input become is written to, or is not.
+unfoldable pub blocksOut : Params → (big opens write : Bool) → ℕ → (s input out : List ℕ) → List ℕ
+blocksOut p big opens write count s input out =
+    cond write (given (p .rate) (blockStep p big opens) (crypt p) count s input ++ drop (count * p .rate) out) out
+
+-- Of `count` blocks, how many have held bytes in them.
+unfoldable pub heldBlocks : Params → (held count : ℕ) → ℕ
+heldBlocks p held count = min count ((held + p .rate - 1) / p .rate)
+
+-- The state that makes nonce and key of the nonce when it takes it up: the right half of the rate is the whitening's left
+-- half, and the left one both of its halves xored.
+unfoldable pub startWords : Params → List ℕ → List ℕ
+startWords p key =
+    let half = take (p .rate / 8) (whitening p key) in
+    xors half (drop (p .rate / 8) (whitening p key)) ++ half ++ key
 
 -- Data in phase Data: where it leads, and what is written.
 abbrev pub dataFrom : Params → Point → List ℕ → Progress

@@ -123,45 +123,18 @@ fn word_in(bytes: &[u8], at: usize, k: usize) -> u32
     a + b * 0x100 + c * 0x1_0000 + d * 0x100_0000
 }
 
-// The eight words of 32 bytes of a slice from `at` on.
-pub(crate) fn words_in(bytes: &[u8], at: usize) -> [u32; 8]
-    requires { ⌜ at + 32 ≤ length (now bytes) ⌝ }
-    ensures { λ r. ⌜ toBytes r ≡ take 32 (drop at (now (bytes .entry))) ⌝ }
+// n words of a slice of bytes from `at` on, with zeros behind them.
+pub(crate) fn words_in(bytes: &[u8], at: usize, n: usize) -> [u32; 8]
+    requires { ⌜ (n ≤ 8) × (at + n * 4 ≤ length (now bytes)) ⌝ }
+    ensures { λ r. ⌜ take (n * 4) (toBytes r) ≡ take (n * 4) (drop at (now (bytes .entry))) ⌝ }
 {
     let mut r = [0u32; 8];
     let mut k = 0;
-    while k < 8 {
+    while k < n {
         r[k] = word_in(bytes, at, k);
         k += 1;
     }
     r
-}
-
-// Word k of the nonce followed by the key; the nonce has n words.
-pub(crate) fn start_word(nonce: &[u8], key: &[u8], n: usize, k: usize) -> u32
-    requires { ⌜ (n * 4 ≡ length (now nonce)) × (k * 4 + 3 < n * 4 + length (now key)) ⌝ }
-    ensures { λ r. ⌜ r ≡ getD (toWords (now (nonce .entry) ++ now (key .entry))) k 0 ⌝ }
-{
-    if k < n {
-        word_in(nonce, 0, k)
-    } else {
-        word_in(key, 0, k - n)
-    }
-}
-
-// Words that begin with n bytes of the held ones followed by the input, from `pos` on.
-pub(crate) fn load(buffer: [u8; 64], held: usize, input: &[u8], pos: usize, n: usize) -> [u32; 8]
-    requires { ⌜ (held ≤ 64) × (n ≤ 32) × (pos + n ≤ held + length (now input)) ⌝ }
-    ensures { λ r. ⌜ take n (toBytes r) ≡ take n (drop pos (take held buffer ++ now (input .entry))) ⌝ }
-{
-    if held <= pos {
-        let at = pos - held;
-        if 32 <= input.len() - at {
-            return words_in(input, at);
-        }
-    }
-    let bytes = gather(buffer, held, input, pos, n);
-    words_in(&bytes, 0)
 }
 
 // The bytes of an array of words, little-endian.

@@ -5,7 +5,7 @@ use native.Mathlib.Omega.{arith}
 use lib.ListN.{length}
 use borrow.Author.Needs.{needs}
 use Rattle.tc_sparkle_aead.proofs.HeaderLaws.{absorb-none, absorb-some}
-use Rattle.tc_sparkle_aead.proofs.CallLaws.{bufferedCount-bound, streamed-rate, gone-bound, rest-bound}
+use Rattle.tc_sparkle_aead.proofs.CallLaws.{bufferedCount-bound, bufferedCount-blocks, streamed-rate, gone-bound, rest-bound}
 use Rattle.schwaemm.specs.Schwaemm.{absorbBlock}
 use Rattle.tc_aead_cipher.specs.declared.phase.Phase.the-variants.{Aad}
 use Rattle.tc_aead_cipher.specs.Variant.{paramsOf}
@@ -37,7 +37,10 @@ add-total : tie.Need-add-total
 add-total c = omega (arith, held-fits c)
 
 absorb-blocks-requires : tie.Need-absorb-blocks-requires
-absorb-blocks-requires c κs = (held-fits (c .before), gone c)
+absorb-blocks-requires c κs =
+    let held = c .before in
+    let s = held .before .before .before .before .before .args in
+    (omega (arith, held .buffered-count .ensures, bufferedCount-blocks (paramsOf (s .variant)) (s .at .phase) (s .at .held)), gone c)
 
 mul-gone : tie.Need-mul-gone
 mul-gone c = rw (c .nonce-bytes .ensures) (omega (arith, gone (c .before .before), held-fits (c .before .before .before)))

@@ -6,7 +6,7 @@ use lib.ListN.{length}
 use borrow.Author.Needs.{needs}
 use Rattle.tc_aead_cipher.specs.Variant.{paramsOf}
 use Rattle.schwaemm.proofs.RoundTrip.{length-crypted-blocks}
-use Rattle.tc_sparkle_aead.proofs.CallLaws.{bufferedCount-bound, streamed-rate, gone-bound, rest-bound}
+use Rattle.tc_sparkle_aead.proofs.CallLaws.{bufferedCount-bound, bufferedCount-blocks, streamed-rate, gone-bound, rest-bound}
 use Rattle.tc_sparkle_aead.proofs.StateLaws.{state-length}
 use Rattle.tc_sparkle_aead.proofs.BlockRuns.{length-stream}
 use Rattle.tc_sparkle_aead.proofs.DataLaws.{count-is, written-at}
@@ -36,7 +36,11 @@ gone c = gone-bound _ _ _ _ (blockCount-ready c)
 
 crypt-blocks-requires : tie.Need-crypt-blocks-requires
 crypt-blocks-requires c κs =
-    (omega (arith, c .before .before .buffered-count .ensures, bufferedCount-bound (paramsOf (c .before .before .before .before .before .before .before .args .variant)) (small (c .before .before .before .before .before .before .before .args .variant)) (c .before .before .before .before .before .before .before .args .at .phase) (c .before .before .before .before .before .before .before .args .at .held)), gone (c .before .before), c .before .before .before .before .before .before .before .pre .1)
+    let s = c .before .before .before .before .before .before .before in (
+      omega (arith, c .before .before .buffered-count .ensures, bufferedCount-blocks (paramsOf (s .args .variant)) (s .args .at .phase) (s .args .at .held)),
+      gone (c .before .before),
+      s .pre .1,
+    )
 
 mul-gone : tie.Need-mul-gone
 mul-gone c = rw (c .nonce-bytes .ensures) (omega (arith, gone (c .before .before .before .before .before .before), c .before .before .before .before .before .before .buffered-count .ensures, bufferedCount-bound (paramsOf (c .before .before .before .before .before .before .before .before .before .before .before .args .variant)) (small (c .before .before .before .before .before .before .before .before .before .before .before .args .variant)) (c .before .before .before .before .before .before .before .before .before .before .before .args .at .phase) (c .before .before .before .before .before .before .before .before .before .before .before .args .at .held)))
