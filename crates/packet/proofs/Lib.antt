@@ -1,3 +1,3 @@
 -- The laws that the proofs of `packet` cite.
--- PacketLaws: a packet at once, call by call.
+-- PacketLaws: a packet by the number of its variant.
 mod PacketLaws

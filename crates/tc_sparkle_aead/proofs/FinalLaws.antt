@@ -86,17 +86,17 @@ module _ (p : Params) (phase : Phase) (held available n : ℕ) (passed : endChec
   total-room : total .count ≤ available
   total-room = room-passed available (total .count) (parts .count) (total .two)
 
-  sealing-room : opening phase ≡ false → heldData p phase held + p .key ≤ available
+  pub sealing-room : opening phase ≡ false → heldData p phase held + p .key ≤ available
   unfolding totalLen
   sealing-room seals =
       omega (arith, total-room, within64-passed (heldData p phase held + 0 + p .key) _ _ (rw seals at (total .one)))
 
-  opening-room : opening phase ≡ true → heldData p phase held ≤ available + p .key
+  pub opening-room : opening phase ≡ true → heldData p phase held ≤ available + p .key
   unfolding totalLen
   opening-room opens =
       omega (arith, total-room, within64-passed (heldData p phase held + 0) _ _ (rw opens at (total .one)))
 
-  opening-whole : opening phase ≡ true → p .key ≤ heldData p phase held
+  pub opening-whole : opening phase ≡ true → p .key ≤ heldData p phase held
   opening-whole opens = whole-passed (heldData p phase held) (p .key) _ n (rw opens at (parts .two))
 
 -- ---- The call.

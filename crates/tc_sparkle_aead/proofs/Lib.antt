@@ -7,6 +7,7 @@ pub mod WordLaws
 pub mod StateLaws
 pub mod MixLaws
 pub mod BlockRuns
+pub mod StreamLaws
 pub mod LastBlock
 pub mod StartLaws
 pub mod TagLaws
@@ -16,5 +17,7 @@ pub mod InitLaws
 pub mod DataLaws
 pub mod EndLaws
 pub mod FinalLaws
+pub mod PacketLaws
+pub mod WholeLaws
 pub mod WorkedExamples
 pub mod WorkedSheet

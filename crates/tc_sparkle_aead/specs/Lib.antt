@@ -3,4 +3,5 @@ pub mod Message
 pub mod Engine
 pub mod Calls
 pub mod Sheet
+pub mod Packet
 pub mod Worked

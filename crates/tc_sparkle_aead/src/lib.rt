@@ -4,3 +4,4 @@ mod blocks;
 mod bytes;
 pub mod engine;
 pub mod message;
+pub mod whole;
