@@ -5,6 +5,8 @@ use tc_aead_cipher::{AeadCipher, AeadCipherInit, AeadParamsRef};
 use tc_block_cipher::CipherDirection;
 use tc_sparkle_aead::{SparkleEngine, SparkleVariant};
 
+use crate::c;
+
 /// The variants in document 01's order.
 pub const VARIANTS: [SparkleVariant; 4] = [
     SparkleVariant::Schwaemm128_128,
@@ -18,6 +20,8 @@ pub const VARIANTS: [SparkleVariant; 4] = [
 pub enum Contender {
     /// The Rust original: init on a new engine, one data call, end.
     Rust,
+    /// The plain C of c/schwaemm.c.
+    C,
     /// The port: `schwaemm_seal` or `schwaemm_open`.
     Rattle,
     /// The port through the library for users: `seal_into` or `open_into`.
@@ -28,7 +32,16 @@ pub enum Contender {
 
 impl Contender {
     /// All contenders, in the order of the tables.
-    pub const ALL: [Self; 4] = [
+    pub const ALL: [Self; 5] = [
+        Self::Rust,
+        Self::C,
+        Self::Rattle,
+        Self::RattleLibrary,
+        Self::RattleList,
+    ];
+
+    /// The original and the port, whose instructions and stack are looked at.
+    pub const ORIGINAL_AND_PORT: [Self; 4] = [
         Self::Rust,
         Self::Rattle,
         Self::RattleLibrary,
@@ -39,6 +52,7 @@ impl Contender {
     pub fn name(self) -> &'static str {
         match self {
             Self::Rust => "Rust",
+            Self::C => "C",
             Self::Rattle => "Rattle",
             Self::RattleLibrary => "Rattle library",
             Self::RattleList => "Rattle list",
@@ -143,6 +157,7 @@ impl Job {
     pub fn run(&mut self, contender: Contender) {
         match contender {
             Contender::Rust => self.rust(),
+            Contender::C => self.c(),
             Contender::Rattle => self.rattle(),
             Contender::RattleLibrary => self.library(),
             Contender::RattleList => {
@@ -162,6 +177,21 @@ impl Job {
             Operation::Open => CipherDirection::Decrypt,
         };
         run_rust(variant, direction, &params, &self.input, &mut self.output);
+    }
+
+    #[inline(never)]
+    fn c(&mut self) {
+        let packet = c::Packet {
+            variant: self.variant,
+            key: &self.key,
+            nonce: &self.nonce,
+            header: &self.header,
+            input: &self.input,
+        };
+        match self.operation {
+            Operation::Seal => c::seal(packet, &mut self.output),
+            Operation::Open => assert!(c::open(packet, &mut self.output)),
+        }
     }
 
     #[inline(never)]

@@ -1,9 +1,11 @@
 //! What sealing and opening cost, port and Rust original side by side: time
-//! (`packets`), instructions (`instructions`), stack (`stack`). The port is
-//! called through its host boundary (docs/HOST.md). `constant_time` looks for
-//! jumps and addresses that depend on secrets. `calls` has the time of call
-//! lists as text beside the same calls through the boundary.
+//! (`packets`, beside a plain C too), instructions (`instructions`), stack
+//! (`stack`). The port is called through its host boundary (docs/HOST.md).
+//! `constant_time` looks for jumps and addresses that depend on secrets.
+//! `calls` has the time of call lists as text beside the same calls through the
+//! boundary.
 
+pub mod c;
 pub mod contenders;
 pub mod stack;
 pub mod table;

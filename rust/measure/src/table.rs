@@ -78,9 +78,9 @@ impl Row {
 pub fn table(rows: &[Row], number: fn(&Row) -> f64) -> String {
     let names = Contender::ALL.map(Contender::name).join(" | ");
     let mut text = format!(
-        "| variant | operation | header | message | {names} | Rust a byte | Rattle a byte | Rattle / Rust | Rattle library / Rust | Rattle list / Rust |\n"
+        "| variant | operation | header | message | {names} | Rust a byte | C a byte | Rattle a byte | Rattle / Rust | Rattle / C | Rattle library / Rust | Rattle list / Rust |\n"
     );
-    writeln!(text, "|---:|---|{}", "---:|".repeat(11)).unwrap();
+    writeln!(text, "|---:|---|{}", "---:|".repeat(14)).unwrap();
     for row in rows.iter().filter(|row| row.contender == Contender::Rust) {
         let of = |contender| {
             rows.iter()
@@ -88,7 +88,7 @@ pub fn table(rows: &[Row], number: fn(&Row) -> f64) -> String {
                 .map_or(f64::NAN, number)
         };
         let times = Contender::ALL.map(of);
-        let [rust, rattle, library, list] = times;
+        let [rust, c, rattle, library, list] = times;
         let length = row.length as f64;
         let mut cells = vec![
             (row.variant + 1).to_string(),
@@ -99,8 +99,10 @@ pub fn table(rows: &[Row], number: fn(&Row) -> f64) -> String {
         cells.extend(times.map(|time| format!("{time:.0}")));
         let small = [
             rust / length,
+            c / length,
             rattle / length,
             rattle / rust,
+            rattle / c,
             library / rust,
             list / rust,
         ];
@@ -147,13 +149,19 @@ fn size(length: usize) -> String {
     }
 }
 
-/// The contenders that the plot shows.
-const PLOTTED: [Contender; 3] = [Contender::Rust, Contender::Rattle, Contender::RattleList];
+/// The contenders that the plot shows, where there are times of them.
+const PLOTTED: [Contender; 4] = [
+    Contender::Rust,
+    Contender::C,
+    Contender::Rattle,
+    Contender::RattleList,
+];
 
 /// How a contender's line looks.
 fn line_style(contender: Contender) -> &'static str {
     match contender {
         Contender::Rust => "stroke=\"#c05a00\"",
+        Contender::C => "stroke=\"#2f7d32\"",
         Contender::Rattle | Contender::RattleLibrary => "stroke=\"#1f5fbf\"",
         Contender::RattleList => "stroke=\"#1f5fbf\" stroke-dasharray=\"4 3\"",
     }
@@ -211,8 +219,8 @@ fn frame(svg: &mut String, panel: &Panel, name: &str, lengths: &[usize]) {
 }
 
 /// The contenders' lines in a panel.
-fn lines(svg: &mut String, panel: &Panel, rows: &[&Row]) {
-    for contender in PLOTTED {
+fn lines(svg: &mut String, panel: &Panel, plotted: &[Contender], rows: &[&Row]) {
+    for &contender in plotted {
         let points: Vec<String> = rows
             .iter()
             .filter(|row| row.contender == contender)
@@ -236,7 +244,7 @@ fn lines(svg: &mut String, panel: &Panel, rows: &[&Row]) {
 }
 
 /// The plot's first lines: its size, its title and which line is whose.
-fn head(svg: &mut String) {
+fn head(svg: &mut String, plotted: &[Contender]) {
     let width = LEFT + 4.0 * (PANEL.0 + GAP.0);
     let height = TOP + 2.0 * (PANEL.1 + GAP.1);
     writeln!(svg, "<svg xmlns=\"http://www.w3.org/2000/svg\" viewBox=\"0 0 {width} {height}\" font-family=\"sans-serif\" font-size=\"12\">").unwrap();
@@ -246,7 +254,7 @@ fn head(svg: &mut String) {
     )
     .unwrap();
     writeln!(svg, "<text x=\"{LEFT}\" y=\"20\">Nanoseconds a byte over the message's length, no header; median. Both axes are logarithmic.</text>").unwrap();
-    for (i, contender) in PLOTTED.into_iter().enumerate() {
+    for (i, &contender) in plotted.iter().enumerate() {
         let x = LEFT + 150.0 * i as f64;
         let style = line_style(contender);
         writeln!(
@@ -277,8 +285,10 @@ pub fn plot(rows: &[Row]) -> Result<String, String> {
     if lengths.len() < 2 || !low.is_normal() {
         return Err("the plot needs times of messages of two lengths".to_string());
     }
+    let mut plotted = PLOTTED.to_vec();
+    plotted.retain(|contender| rows.iter().any(|row| row.contender == *contender));
     let mut svg = String::new();
-    head(&mut svg);
+    head(&mut svg, &plotted);
     for (row, operation) in Operation::ALL.into_iter().enumerate() {
         for (column, variant) in VARIANTS.iter().enumerate() {
             let panel = Panel {
@@ -295,7 +305,7 @@ pub fn plot(rows: &[Row]) -> Result<String, String> {
                 &format!("{variant}, {}", operation.name()),
                 &lengths,
             );
-            lines(&mut svg, &panel, &here);
+            lines(&mut svg, &panel, &plotted, &here);
         }
     }
     svg.push_str("</svg>\n");
@@ -304,7 +314,7 @@ pub fn plot(rows: &[Row]) -> Result<String, String> {
 
 #[cfg(test)]
 mod tests {
-    use super::{Row, plot};
+    use super::{Row, plot, table};
     use crate::contenders::{Contender, Operation};
 
     fn row(length: usize, contender: Contender) -> Row {
@@ -327,6 +337,28 @@ mod tests {
         }
         assert_eq!(Row::parse("5,open,0,64,Rust,1.0,1.0"), None);
         assert_eq!(Row::parse("1,open,0,64,Rust,1.0"), None);
+    }
+
+    #[test]
+    fn a_table_has_every_ratio() {
+        let mut rows = Contender::ALL.map(|contender| row(64, contender));
+        rows[1].median /= 2.0;
+        let text = table(&rows, |row| row.median);
+        let lines: Vec<Vec<&str>> = text.lines().map(|l| l.split('|').collect()).collect();
+        let [head, rule, cells] = &lines[..] else {
+            panic!("a head, a rule and a packet: {text}");
+        };
+        assert_eq!((head.len(), rule.len()), (cells.len(), cells.len()));
+        let cell = |name: &str| {
+            let place = head.iter().position(|cell| cell.trim() == name);
+            cells[place.expect("a column")].trim()
+        };
+        assert_eq!((cell("Rattle"), cell("C")), ("672", "336"));
+        assert_eq!(
+            (cell("Rattle / Rust"), cell("Rattle / C")),
+            ("1.00", "2.00")
+        );
+        assert_eq!(cell("Rattle list / Rust"), "1.00");
     }
 
     #[test]

@@ -21,7 +21,7 @@ fn main() -> ExitCode {
             for header in HEADERS {
                 for length in LENGTHS {
                     let mut job = Job::new(variant, operation, header, length);
-                    for contender in Contender::ALL {
+                    for contender in Contender::ORIGINAL_AND_PORT {
                         let name = format!(
                             "{},{},{header},{length},{}",
                             variant + 1,

@@ -1,4 +1,5 @@
-//! Benchmark of sealing and opening whole packets, the port beside the Rust:
+//! Benchmark of sealing and opening whole packets, the port beside the Rust and
+//! a plain C:
 //!
 //!     cargo run --release -p measure --bin packets -- [--rounds N] [--csv FILE] [--svg FILE]
 //!     cargo run --release -p measure --bin packets -- --plot CSV SVG
