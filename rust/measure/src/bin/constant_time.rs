@@ -18,7 +18,7 @@ use measure::valgrind::{errors, make_defined, make_undefined, running};
 /// a list that opens, and those of a second start that depend on whether key and
 /// nonce are the last loaded ones.
 const PACKET_OPENS: u64 = 1;
-const LIST_OPENS: u64 = 2;
+const LIST_OPENS: u64 = 1;
 const SECOND_START: u64 = 1;
 
 /// Runs a case, says how many reports came, and whether they may.
