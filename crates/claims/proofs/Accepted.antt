@@ -33,8 +33,8 @@ use Rattle.tc_aead_cipher.proofs.VariantLaws.{sizes, small}
 use Rattle.claims.specs.Refused.{Active}
 use Rattle.claims.specs.Reader.{Reader, readerHeld, dataPhase, Load, lastKey, lastNonce}
 use Rattle.claims.specs.Messages.{released, Writes}
-use Rattle.claims.proofs.Points.{held-nil, blockPoint}
-use Rattle.claims.proofs.OpeningEnd.{packet-given}
+use Rattle.tc_sparkle_aead.proofs.Points.{held-nil, blockPoint}
+use Rattle.tc_sparkle_aead.proofs.OpeningEnd.{packet-given}
 use Rattle.claims.proofs.Invariant.{pairIn, PhaseInvariant, engineOf, dataPoint, pointIn, then-good, holds-data, state-data}
 use Rattle.claims.proofs.Invariant.{LoadsFit, isLoaded, last-fits, data-given, phase-agrees}
 use Rattle.claims.proofs.InvariantKept.{readerOf, inData, stepsAtData, begin-data, sealing-state, sealing-block, sealing-tag}

@@ -35,7 +35,7 @@ use Rattle.claims.specs.Reader.{readerHeld, read, reader, Load, loadedKe
 use Rattle.claims.specs.Steps.{stepsBefore, stepsAfterInit}
 use Rattle.claims.specs.Messages.{released, Writes, Each, endOutcome, answerOf, messageOf, EndsWith, finishedBytes}
 use Rattle.claims.specs.Messages.{OpenEndExact, Before, Keeps}
-use Rattle.claims.proofs.Points.{blockPoint}
+use Rattle.tc_sparkle_aead.proofs.Points.{blockPoint}
 use Rattle.claims.proofs.Invariant.{PhaseInvariant, SealingFinal, openedMac, headPoint}
 use Rattle.claims.proofs.Invariant.{dataPoint, pointIn, phase-agrees}
 use Rattle.claims.proofs.InvariantKept.{readerOf, invariant-run, aad-some}

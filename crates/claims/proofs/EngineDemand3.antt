@@ -35,7 +35,7 @@ use Rattle.claims.proofs.Invariant.{Invariant, PhaseInvariant, engineOf
 use Rattle.claims.proofs.Invariant.{LoadsFit, pointHeld, repeats-agree, held-agrees, phase-agrees, end-enough}
 use Rattle.claims.proofs.InvariantKept.{readerOf, invariant-step, invariant-run, begin-data, active-loaded}
 use Rattle.claims.proofs.InvariantKept.{opening-verified}
-use Rattle.claims.proofs.Points.{blockPoint}
+use Rattle.tc_sparkle_aead.proofs.Points.{blockPoint}
 use Rattle.claims.proofs.PublicState.{length-inArray}
 use Rattle.claims.proofs.Demand1.{six-leaves}
 use Rattle.claims.proofs.Demand3.{Linked, sheets-and-verdicts, first-sheets-and-verdicts}

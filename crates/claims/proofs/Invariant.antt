@@ -34,8 +34,9 @@ use Rattle.tc_sparkle_aead.specs.Engine.{noPair, repeats, remember, currentKey,
 use Rattle.tc_aead_cipher.proofs.VariantLaws.{Small}
 use Rattle.claims.specs.Reader.{Load, Reader, newReader, loadsKept, afterLoad, lastKey, lastNonce, isAmong, loadedKey}
 use Rattle.claims.specs.Reader.{loadedNonce, headerPhase}
-use Rattle.claims.proofs.Points.{take-inArray, held-nil, blockPoint, blockPoint-nil, buffered-aad}
-use Rattle.claims.proofs.Points.{buffered-data, state-point, blockCount-point, put-point, streamed-point, given-point}
+use Rattle.tc_sparkle_aead.proofs.StateLaws.{all-inArray}
+use Rattle.tc_sparkle_aead.proofs.Points.{held-nil, blockPoint, blockPoint-nil, buffered-aad}
+use Rattle.tc_sparkle_aead.proofs.Points.{buffered-data, state-point, blockCount-point, put-point, streamed-point, given-point}
 
 -- ---- What the engine is, from what the reader keeps
 
@@ -323,7 +324,7 @@ pub key-back : (p : Params) → Small p → (loads : List Load) → LoadsFit p l
     → currentKey p (pairIn loads) ≡ lastKey loads
 unfolding currentKey remember
 key-back p m [] f l = absurd (let z : _≡_ {A = ℕ} 0 1 = cc in omega arith)
-key-back p m (x ∷ loads) f l = take-inArray 32 (p .key) (x .key) (omega arith) (f .all-fit .0 .key-fits)
+key-back p m (x ∷ loads) f l = all-inArray (p .key) 32 (x .key) (f .all-fit .0 .key-fits) (m .key)
 
 cond-and : (a b : Bool) → cond a b false ≡ (a && b || false)
 cond-and true true = refl
@@ -337,8 +338,8 @@ repeats-agree p m [] f key nonce = refl
 repeats-agree p m (x ∷ []) f key nonce =
     let g = f .all-fit .0 in
     rw (
-      take-inArray 32 (p .key) (x .key) (omega arith) (g .key-fits),
-      take-inArray 32 (p .rate) (x .nonce) (omega arith) (g .nonce-fits),
+      all-inArray (p .key) 32 (x .key) (g .key-fits) (m .key),
+      all-inArray (p .rate) 32 (x .nonce) (g .nonce-fits) (m .rate),
     )
     (cond-and (same (x .key) key) (same (x .nonce) nonce))
 repeats-agree p m (x ∷ (y ∷ loads)) f key nonce = absurd (omega (arith, f .at-most))

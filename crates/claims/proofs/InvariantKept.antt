@@ -1,6 +1,6 @@
 -- Every call keeps the invariant, so after a list of calls the engine is a function of what the reader keeps, but for the
 -- tag and the steps. By cases on the call and the phase; refused calls leave both as they are, since their checks agree.
-use mathlib.Core.Path.{_≡_, refl, sym, ap, ap₂, subst, _∙_}
+use mathlib.Core.Path.{_≡_, refl, sym, ap, subst, _∙_}
 use mathlib.Core.Bool.{Bool, true, false, cond}
 use mathlib.Core.List.{List, [], _∷_, _++_, append-nil}
 use Prim.Native.Nat.{ℕ, suc, _*_, _≤_, _<_}
@@ -9,8 +9,7 @@ use borrow.Author.Tests.{ne-eqb}
 use lib.ListN.{length, length-append}
 use Rattle.schwaemm.specs.Bytes.{same}
 use Rattle.schwaemm.specs.Blocks.{held}
-use Rattle.schwaemm.specs.Schwaemm.{Params, Sizes, crypt, prepared, sealing, opening as openingBlock, beforeLast, lastBlock, tagOf, decrypt, tag, body as bodyOf, received, verified, leading}
-use Rattle.schwaemm.proofs.RoundTrip.{tag-of-opened}
+use Rattle.schwaemm.specs.Schwaemm.{Params, Sizes, crypt, prepared, sealing, opening as openingBlock, beforeLast, lastBlock, tagOf, decrypt, tag, body as bodyOf, verified, leading}
 use Rattle.tc_aead_cipher.specs.declared.variant.SparkleVariant.{SparkleVariant}
 use Rattle.tc_aead_cipher.specs.declared.phase.Direction.{Direction}
 use Rattle.tc_aead_cipher.specs.declared.phase.Direction.the-variants.{Encrypt, Decrypt}
@@ -38,9 +37,8 @@ use Rattle.claims.specs.Reader.{headerPhase, readerHeld, repeated, readS
 use Rattle.claims.specs.Reader.{read, readFrom, reader}
 use Rattle.claims.specs.Refused.{Active}
 use Rattle.claims.specs.Refused.Active.{in-init, in-aad, in-data}
-use Rattle.claims.proofs.Points.{blockPoint}
-use Rattle.claims.proofs.OpeningEnd.{last-state, packet-state, held-block}
-use Rattle.claims.proofs.OpeningEnd.{held-received}
+use Rattle.tc_sparkle_aead.proofs.Points.{blockPoint}
+use Rattle.tc_sparkle_aead.proofs.OpeningEnd.{last-state, packet-block, packet-last, packet-tag, packet-verified}
 use Rattle.claims.proofs.Invariant.{headPoint, dataPoint, pointIn, initialIn, pairIn, engineOf}
 use Rattle.claims.proofs.Invariant.{openedMac, PhaseInvariant, Fits, Invariant, invariant-new, holds-init, holds-aad}
 use Rattle.claims.proofs.Invariant.{head-point, started-point, begin-point-init}
@@ -294,46 +292,27 @@ module _ (v : SparkleVariant) where
 
         -- an opening
         module _ (enough : p .key ≤ length body) where
-          pub opening-state : stateIn p (dataPoint p Decrypt key nonce header body .words)
-              ≡ beforeLast p (openingBlock p) (prepared p key nonce header) (bodyOf p body)
-          unfolding plainOf plainBy
-          opening-state =
-              state-data p (sizes v) (small v) Decrypt key nonce header body
-              ∙ packet-state p body enough (openingBlock p) (prepared p key nonce header)
-
-          opening-holds : buffered p (dataPoint p Decrypt key nonce header body)
-              ≡ held (p .rate) (p .key) body
-          opening-holds = holds-data p (sizes v) (small v) Decrypt key nonce header body
-
           pub opening-block : openBlock p (dataPoint p Decrypt key nonce header body) ≡ lastBlock p (bodyOf p body)
-          unfolding openBlock
-          opening-block = rw opening-holds (held-block p body enough)
-
-          pub opening-received : receivedTag p (dataPoint p Decrypt key nonce header body) ≡ received p body
-          unfolding receivedTag
-          opening-received = rw opening-holds (held-received p body enough)
+          unfolding dataPoint plainOf plainBy
+          opening-block = packet-block p (sizes v) (small v) key nonce header body enough
 
           pub opening-last : openLast p (dataPoint p Decrypt key nonce header body)
               ≡ crypt p
               (beforeLast p (openingBlock p) (prepared p key nonce header) (bodyOf p body))
               (lastBlock p (bodyOf p body))
-          unfolding openLast
-          opening-last = rw (opening-block, opening-state)
+          unfolding dataPoint plainOf plainBy
+          opening-last = packet-last p (sizes v) (small v) key nonce header body enough
 
           pub opening-tag : openTag p (currentKey p (pairIn loads)) (dataPoint p Decrypt key nonce header body)
               ≡ tag p key nonce header (decrypt p key nonce header (bodyOf p body))
-          unfolding openTag openingBlock
-          opening-tag =
-              rw (current-key, opening-last, opening-block, opening-state)
-              (ap (tagOf p key)
-              (last-state p (openingBlock p) (prepared p key nonce header) (bodyOf p body))
-              ∙ sym (tag-of-opened p (sizes v) key nonce header (bodyOf p body)))
+          unfolding dataPoint plainOf plainBy
+          opening-tag = rw current-key (packet-tag p (sizes v) (small v) key nonce header body enough)
 
           pub opening-verified : same (receivedTag p (dataPoint p Decrypt key nonce header body))
               (openTag p (currentKey p (pairIn loads)) (dataPoint p Decrypt key nonce header body))
               ≡ verified p key nonce header body
-          unfolding verified
-          opening-verified = ap₂ same opening-received opening-tag
+          unfolding dataPoint plainOf plainBy
+          opening-verified = rw current-key (packet-verified p (sizes v) (small v) key nonce header body enough)
 
           pub open-engine : (s : Steps) (k : ℕ)
               → openFinal (dataEngine Decrypt header body s) k .engine

@@ -38,7 +38,7 @@ use Rattle.claims.specs.Refused.{Active}
 use Rattle.claims.specs.Refused.Active.{in-init, in-aad, in-data}
 use Rattle.claims.specs.Steps.{startSteps, stepsBefore, messageLength}
 use Rattle.claims.specs.Messages.{Keeps}
-use Rattle.claims.proofs.Points.{blockPoint, ready-zero}
+use Rattle.tc_sparkle_aead.proofs.Points.{blockPoint, ready-zero}
 use Rattle.claims.proofs.Invariant.{Invariant, PhaseInvariant, LoadsFit, engineOf, headPoint, dataPoint, holds-init}
 use Rattle.claims.proofs.Invariant.{holds-aad, holds-data, head-runs, data-blocks, isLoaded, pointHeld}
 use Rattle.claims.proofs.InvariantKept.{readerOf, stepsAtData, begin-data, data-in, aad-some, header-answer, data-answer}

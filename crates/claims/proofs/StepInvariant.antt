@@ -36,7 +36,7 @@ use Rattle.claims.specs.Refused.{Active}
 use Rattle.claims.specs.Refused.Active.{in-init, in-aad, in-data}
 use Rattle.claims.specs.Steps.{startSteps, stepsBefore, stepsAfterInit, messageLength}
 use Rattle.claims.specs.Messages.{Before, Keeps, messageOf, EndsWith}
-use Rattle.claims.proofs.OpeningEnd.{length-body}
+use Rattle.tc_sparkle_aead.proofs.OpeningEnd.{length-body}
 use Rattle.claims.proofs.Invariant.{Invariant, PhaseInvariant, LoadsFit, engineOf, invariant-new, repeats-agree}
 use Rattle.claims.proofs.InvariantKept.{readerOf, invariant-step, active-enough}
 use Rattle.claims.proofs.Accepted.{end-passed-active, active-opening}

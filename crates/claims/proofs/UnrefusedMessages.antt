@@ -37,7 +37,7 @@ use Rattle.claims.specs.Reader.{Load, loadedKey, loadedNonce, lastKey, a
 use Rattle.claims.specs.Reader.{readFrom, reader}
 use Rattle.claims.specs.Messages.{released, Writes, countOf, wrote, outputs, headerIn, dataOf, RefusedByCheck, Between}
 use Rattle.claims.specs.Messages.{AllBetween, ifOk, acceptedHeader, acceptedData, startedEngine, OpenedUnrefused}
-use Rattle.claims.proofs.Points.{ready-zero}
+use Rattle.tc_sparkle_aead.proofs.Points.{ready-zero}
 use Rattle.claims.proofs.Invariant.{Invariant, PhaseInvariant, pairIn, engineOf, repeats-agree, last-fits}
 use Rattle.claims.proofs.InvariantKept.{readerOf, invariant-step, invariant-from, invariant-run, aad-some}
 use Rattle.claims.proofs.InvariantKept.{header-answer}

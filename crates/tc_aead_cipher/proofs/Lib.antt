@@ -2,5 +2,6 @@
 pub mod VariantLaws
 pub mod PhaseLaws
 pub mod CheckLaws
+pub mod PacketCheckLaws
 pub mod ReplyLaws
 pub mod CallKinds

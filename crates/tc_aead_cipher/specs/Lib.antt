@@ -5,3 +5,4 @@ pub mod Checks
 pub mod Call
 pub mod Outcome
 pub mod Reply
+pub mod PacketCheck

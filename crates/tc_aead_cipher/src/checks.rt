@@ -1,8 +1,11 @@
 // The checks, as decisions of their own, and the length queries over phase and numbers: document
-// 01's tables ("At the entry: phase and call"). Sums are compared by subtraction.
+// 01's tables ("At the entry: phase and call"), and document 02's checks of a packet that is opened
+// whole. Sums are compared by subtraction.
 ghost use mathlib.Core.Path.{_≡_};
 ghost use Rattle.tc_aead_cipher.specs.Variant.{paramsOf};
 ghost use Rattle.tc_aead_cipher.specs.Checks.{opens, directionOf, opening, heldData, keep, then, updateLen, totalLen, phaseCheck, room, headerCheck, dataCheck, endCheck, startCheck};
+ghost use Rattle.tc_aead_cipher.specs.PacketCheck.{packetCheck};
+ghost use Rattle.tc_aead_cipher.specs.Reply.{replyOf};
 ghost use Rattle.schwaemm.specs.Blocks.{ready};
 ghost use Prim.Native.Nat.{_-_, min};
 use super::aead_error::AeadError;
@@ -11,6 +14,8 @@ use super::aead_init_error::AeadInitError;
 use super::aead_init_error::AeadInitResult;
 use super::phase::Direction;
 use super::phase::Phase;
+use super::reply;
+use super::reply::Reply;
 use super::variant::SparkleVariant;
 
 fn opens(d: Direction) -> bool
@@ -229,4 +234,30 @@ pub fn start_check(
     } else {
         AeadInitResult::Ok
     }
+}
+
+// Whether a packet may be opened whole, by its lengths and the output's room, and how many bytes that
+// writes (document 02, 2026-03). The tag's size is the variant's, and an opening's pair may repeat, so of a start
+// only 1 and 2 are left.
+pub fn packet_check(
+    variant: SparkleVariant,
+    key: usize,
+    nonce: usize,
+    packet: usize,
+    room: usize,
+) -> Reply
+    ensures { λ r. ⌜ r ≡ replyOf (packetCheck (paramsOf variant) key nonce packet room) ⌝ }
+{
+    let minimum = variant.tag_bytes();
+    let start = start_check(variant, Direction::Decrypt, key, nonce, minimum, false);
+    let AeadInitResult::Ok = start else {
+        return reply::start_reply_of(start);
+    };
+    if packet < minimum {
+        return reply::refusal(AeadError::CiphertextTooShort {
+            minimum,
+            actual: packet,
+        });
+    }
+    reply::reply_of(with_room(AeadResult::Ok(packet - minimum), room))
 }

@@ -69,11 +69,10 @@ module _ (out : List ℕ) where
       ap₂ (λ (x : List ℕ) (j : ℕ). x ++ drop j out) e k
 
   -- more bytes behind them
-  paste-behind : (bytes tag t u out₁ out₂ : List ℕ) (n k : ℕ) → out₁ ≡ paste out 0 bytes n → take n bytes ≡ t
-      → length t ≡ n → out₂ ≡ paste out₁ n tag k → take k tag ≡ u → length u ≡ k → out₂ ≡ written (t ++ u) out
+  pub paste-written : (tag t u out₁ out₂ : List ℕ) (n k : ℕ) → out₁ ≡ written t out → length t ≡ n
+      → out₂ ≡ paste out₁ n tag k → take k tag ≡ u → length u ≡ k → out₂ ≡ written (t ++ u) out
   unfolding written
-  paste-behind bytes tag t u out₁ out₂ n k e₁ et lt e₂ eu lu =
-      let first = e₁ ∙ paste-front bytes t n et lt in
+  paste-written tag t u out₁ out₂ n k first lt e₂ eu lu =
       let front : take n out₁ ≡ t = ap (take n) first ∙ take-at t (drop (length t) out) n lt in
       let both : length t + k ≡ length (t ++ u) = omega (arith, length-append t u) in
       let rest : drop (n + k) out₁ ≡ drop (length (t ++ u)) out =
@@ -81,6 +80,11 @@ module _ (out : List ℕ) where
       ∙ ap (drop k) (drop-at t (drop (length t) out) n lt) ∙ drop-drop k (length t) out
       ∙ ap (λ (j : ℕ). drop j out) both in
       e₂ ∙ rw (front, eu, rest)
+
+  paste-behind : (bytes tag t u out₁ out₂ : List ℕ) (n k : ℕ) → out₁ ≡ paste out 0 bytes n → take n bytes ≡ t
+      → length t ≡ n → out₂ ≡ paste out₁ n tag k → take k tag ≡ u → length u ≡ k → out₂ ≡ written (t ++ u) out
+  paste-behind bytes tag t u out₁ out₂ n k e₁ et lt =
+      paste-written tag t u out₁ out₂ n k (e₁ ∙ paste-front bytes t n et lt) lt
 
 -- ---- The tag and the bytes of the last block, in their arrays.
 

@@ -5,6 +5,8 @@ pub mod Fill
 pub mod SameLaws
 pub mod WordLaws
 pub mod StateLaws
+pub mod Points
+pub mod OpeningEnd
 pub mod MixLaws
 pub mod BlockRuns
 pub mod StreamLaws
@@ -19,5 +21,6 @@ pub mod EndLaws
 pub mod FinalLaws
 pub mod PacketLaws
 pub mod WholeLaws
+pub mod OpenWholeLaws
 pub mod WorkedExamples
 pub mod WorkedSheet

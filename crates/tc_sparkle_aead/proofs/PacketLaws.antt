@@ -3,10 +3,9 @@
 use mathlib.Core.Path.{_≡_, refl, ap, _∙_}
 use mathlib.Core.Bool.{Bool, true, false, cond}
 use mathlib.Core.List.{List, [], _∷_, _++_}
-use Prim.Native.Nat.{ℕ, _+_, _-_, _*_, _≤_, _<_, min}
+use Prim.Native.Nat.{ℕ, _+_, _*_, _≤_, _<_, min}
 use native.Mathlib.Omega.{arith}
-use lib.ListN.{length, take, drop, replicate, length-drop, take-append-drop}
-use lib.Seq.{drop-at}
+use lib.ListN.{length, take, drop, length-drop, take-append-drop}
 use Rattle.schwaemm.specs.Bytes.{ifEmpty}
 use Rattle.schwaemm.specs.Blocks.{after, held}
 use Rattle.schwaemm.specs.Schwaemm.{Params, Sizes, leading, initialise, absorbBlock, mixLast, absorb, prepared}
@@ -36,25 +35,13 @@ use Rattle.tc_sparkle_aead.specs.Calls.{atPoint, started, initBy, init, 
 use Rattle.tc_sparkle_aead.specs.Calls.{dataBy as engineDataBy, dataOutBy}
 use Rattle.tc_sparkle_aead.specs.Sheet.{step}
 use Rattle.tc_sparkle_aead.specs.Packet.{PacketResult, endBy, endPacket, dataBy, dataPacket, startBy, variantPacket, dataPoint, pointEndBy, pointEnd}
-use Rattle.tc_sparkle_aead.proofs.StateLaws.{all-inArray, inArray-zeros, state-put, put-put, state-fits}
+use Rattle.tc_sparkle_aead.proofs.StateLaws.{all-inArray, state-put, put-put, state-fits}
+use Rattle.tc_sparkle_aead.proofs.Points.{putState-array}
 use Rattle.tc_sparkle_aead.proofs.BeginLaws.{begin-current, begin-parts}
 
 -- ---- The point where the data begins.
 
 module _ (p : Params) (h : Sizes p) (f : Small p) where
-  -- another state in the array of one
-  put-inArray : (s s′ : List ℕ) → length s ≡ stateLength p → length s′ ≡ stateLength p
-      → putState p (inArray 16 s) s′ ≡ inArray 16 s′
-  unfolding putState
-  put-inArray s s′ hs hs′ =
-      let n = stateLength p in
-      let fits = state-fits p h f in
-      rw (
-        inArray-zeros 16 (16 - n) s (omega arith),
-        drop-at s (replicate (16 - n) 0) n hs,
-        inArray-zeros 16 (16 - n) s′ (omega arith),
-      )
-
   -- the last block of a header is taken up
   pub header-last : (s header w block : List ℕ) (count : ℕ) → length s ≡ stateLength p → 0 < length header
       → count ≡ leading p (length header)
@@ -72,7 +59,7 @@ module _ (p : Params) (h : Sizes p) (f : Small p) where
       let hs₁ = after-keeps (p .rate) (absorbBlock p) (λ t. length t ≡ n) (λ t b k. length-absorbBlock p h t b) (leading p (length d)) s d hs in
       let last = mixLast p 0 s₁ (drop (leading p (length d) * p .rate) d) in
       rw (ew₁, eb, ec, state-put p (inArray 16 s) s₁ hs₁, put-put p (inArray 16 s) s₁ last hs₁)
-      (put-inArray s last hs (length-mixLast p h 0 _ _))
+      (putState-array p h f s last hs (length-mixLast p h 0 _ _))
 
   -- of the header at most a block is held
   held-fits : (header : List ℕ) → length (held (p .rate) 0 header) ≤ p .rate

@@ -126,7 +126,7 @@ module _ (p : Params) (d : Direction) (words input : List ℕ) where
         held = length (held (p .rate) k t);
       }) (sym stream-none)
 
-  given-none : (count : ℕ) → count ≡ ready (p .rate) (keep p (Data d)) (length input)
+  pub given-none : (count : ℕ) → count ≡ ready (p .rate) (keep p (Data d)) (length input)
       → given (p .rate) (messageBlock p (plainOf p (Data d))) (crypt p) count (stateIn p words) input
       ≡ streamOut p (dataPoint d words) input
   unfolding streamOut dataPoint
@@ -164,11 +164,12 @@ module _ (v : SparkleVariant) (d : Direction) (words input : List ℕ) (mask cou
       (λ i. record { phase = Data d; words = ew′ i; buffer = eb′ i; held = eh i })
       ∙ streamed-none p d words input k (messageBlock p (plainOf p (Data d)))
 
-  pub data-written : length words ≡ 16 → (out out₁ : List ℕ)
-      → out₁ ≡ blocksOut (paramsOf v) false (ltb 0 mask) true count (xorLast (paramsOf v) 0 (stateIn (paramsOf v) words)) input out
-      → out₁ ≡ written (streamOut (paramsOf v) (dataPoint d words) input) out
+  pub data-written : length words ≡ 16 → (write : Bool) (out out₁ : List ℕ)
+      → out₁ ≡ blocksOut (paramsOf v) false (ltb 0 mask) write count (xorLast (paramsOf v) 0 (stateIn (paramsOf v) words)) input out
+      → out₁ ≡ cond write (written (streamOut (paramsOf v) (dataPoint d words) input) out) out
   unfolding blocksOut written streamOut blockCount
-  data-written hw out out₁ e =
+  data-written hw false out out₁ e = e
+  data-written hw true out out₁ e =
       let p = paramsOf v in
       let plain = plainOf p (Data d) in
       let g = given (p .rate) (messageBlock p plain) (crypt p) count (stateIn p words) input in

@@ -4,4 +4,5 @@ pub mod Engine
 pub mod Calls
 pub mod Sheet
 pub mod Packet
+pub mod OpenWhole
 pub mod Worked

@@ -4,4 +4,5 @@ mod blocks;
 mod bytes;
 pub mod engine;
 pub mod message;
+pub mod verify;
 pub mod whole;

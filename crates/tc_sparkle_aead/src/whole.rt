@@ -1,6 +1,7 @@
 // A whole packet at once, past the engine: what init on a new engine, one data call and the end make of it.
 // No engine is put together (docs/PERFORMANCE.md says what that saves).
 ghost use mathlib.Core.Path.{_≡_};
+ghost use mathlib.Core.Bool.{true, cond};
 ghost use Prim.Native.Nat.{_*_, _≤_};
 ghost use lib.ListN.{length};
 ghost use Rattle.schwaemm.specs.Schwaemm.{prepared};
@@ -24,7 +25,7 @@ use tc_aead_cipher::reply::Reply;
 use tc_aead_cipher::variant::SparkleVariant;
 
 // The state that a message begins with: the start, and the header behind it.
-fn prepare(variant: SparkleVariant, key: &[u8], nonce: &[u8], header: &[u8]) -> [u32; 16]
+pub(crate) fn prepare(variant: SparkleVariant, key: &[u8], nonce: &[u8], header: &[u8]) -> [u32; 16]
     requires { ⌜ (length (now key) ≡ paramsOf variant .key) × (length (now nonce) ≡ paramsOf variant .rate) ⌝ }
     ensures { λ r. ⌜ r ≡ inArray 16 (prepared (paramsOf variant) (now (key .entry)) (now (nonce .entry)) (now (header .entry))) ⌝ }
 {
@@ -50,23 +51,25 @@ fn prepare(variant: SparkleVariant, key: &[u8], nonce: &[u8], header: &[u8]) -> 
     blocks::mix_last(variant, w, bytes::part(header, gone, n - gone), n - gone, 0)
 }
 
-// The point after the data, which is all of the message or packet, and what is written of it.
-fn data(
+// The point after the data, which is all of the message or packet. Where `write` is true, what the blocks
+// become is written.
+pub(crate) fn data(
     variant: SparkleVariant,
     d: Direction,
     words: [u32; 16],
     input: &[u8],
     output: &mut [u8],
+    write: bool,
 ) -> Point
-    requires { ⌜ blockCount (paramsOf variant) (keep (paramsOf variant) (Phase.Data d)) (dataPoint d words) (now input) * paramsOf variant .rate ≤ length (now output) ⌝ }
+    requires { ⌜ (write ≡ true → blockCount (paramsOf variant) (keep (paramsOf variant) (Phase.Data d)) (dataPoint d words) (now input) * paramsOf variant .rate ≤ length (now output)) ⌝ }
     ensures { λ r. ⌜ r ≡ dataFrom (paramsOf variant) (dataPoint d words) (now (input .entry)) .point ⌝ }
-    ensures { λ _. ⌜ now (output .exit) ≡ written (streamOut (paramsOf variant) (dataPoint d words) (now (input .entry))) (now (output .entry)) ⌝ }
+    ensures { λ _. ⌜ now (output .exit) ≡ cond write (written (streamOut (paramsOf variant) (dataPoint d words) (now (input .entry))) (now (output .entry))) (now (output .entry)) ⌝ }
 {
     let phase = Phase::Data(d);
     let mut w = words;
     let mask = blocks::mask(checks::opening(phase));
     let count = checks::block_count(variant, checks::keep(variant, phase), input.len());
-    blocks::blocks(variant, &mut w, 0, mask, false, input, output, true, count);
+    blocks::blocks(variant, &mut w, 0, mask, false, input, output, write, count);
     let gone = count * variant.nonce_bytes();
     let rest = input.len() - gone;
     Point {
@@ -130,6 +133,6 @@ pub fn packet(
         return reply::reply_of(answer);
     };
     let words = prepare(variant, key, nonce, header);
-    let at = data(variant, d, words, input, output);
+    let at = data(variant, d, words, input, output, true);
     end(variant, at, key, n, output)
 }

@@ -1,5 +1,6 @@
--- `data` is where the message's blocks lead from the words alone, and writes what they become.
+-- `data` is where the message's blocks lead from the words alone, and writes what they become where it is told to.
 use mathlib.Core.Path.{_≡_, ap, _∙_}
+use mathlib.Core.Bool.{true}
 use Prim.Native.Nat.{_-_, _*_, _≤_}
 use native.Mathlib.Omega.{arith}
 use lib.ListN.{length}
@@ -50,14 +51,14 @@ stays c =
       keep-bound (paramsOf v) (Data (s .args .d)),
     ))
 
--- the output holds what they become
+-- the output holds what they become, where it is written
 room : (c : tie.After-block-count)
     → let s = c .before .before .before .before .before .before in
-    c .block-count .result * paramsOf (s .args .variant) .rate ≤ length (s .args .output .now)
-room c =
+    s .args .write ≡ true → c .block-count .result * paramsOf (s .args .variant) .rate ≤ length (s .args .output .now)
+room c e =
     let s = c .before .before .before .before .before .before in
     let p = paramsOf (s .args .variant) in
-    rw (counted c, ← count-none p (s .args .d) (s .args .words) (s .args .input .now) (keep p (Data (s .args .d)))) (s .pre)
+    rw (counted c, ← count-none p (s .args .d) (s .args .words) (s .args .input .now) (keep p (Data (s .args .d)))) (s .pre e)
 
 blocks-requires : tie.Need-blocks-requires
 blocks-requires c κs =
@@ -67,7 +68,7 @@ blocks-requires c κs =
     let p = paramsOf (s .args .variant) in (
       mask-own _ _ (masked .mask .ensures ∙ ap maskOf (masked .before .opening .ensures)),
       gone-bound (p .rate) _ _ _ (counted blocks),
-      λ e. room blocks,
+      room blocks,
     )
 
 mul-gone : tie.Need-mul-gone
@@ -90,7 +91,7 @@ returns c =
     let em = masked .mask .ensures ∙ ap maskOf (masked .before .opening .ensures) in (
       data-point v (s .args .d) (s .args .words) (s .args .input .now) _ _ em (counted blocks) _ (sized .nonce-bytes .ensures) _ _
           (taken .blocks2 .ensures .0) (c .part .ensures),
-      data-written v (s .args .d) (s .args .words) (s .args .input .now) _ _ em (counted blocks) (words-length s) _ _
+      data-written v (s .args .d) (s .args .words) (s .args .input .now) _ _ em (counted blocks) (words-length s) (s .args .write) _ _
           (taken .blocks2 .ensures .1),
     )
 

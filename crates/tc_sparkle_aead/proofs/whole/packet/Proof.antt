@@ -48,7 +48,7 @@ prepare-requires : tie.Need-prepare-requires
 prepare-requires c κs = lengths (c .before .before .before .before)
 
 data-requires : tie.Need-data-requires
-data-requires c κs =
+data-requires c κs = λ e.
     let told = c .before .before .before in
     let answered = told .before .before in
     let a = answered .before .before .before .before .before .before .before .before .before .before .args in

@@ -5,8 +5,8 @@ use mathlib.Core.List.{List, [], _++_}
 use Prim.Native.Nat.{ℕ, _+_, _-_, _*_, _/_, _≤_, min}
 use native.Mathlib.Nat.{zero-div}
 use native.Mathlib.Omega.{arith}
-use lib.ListN.{length, take, drop, replicate, length-replicate}
-use lib.Seq.{take-all, take-at, drop-at, take-append-add, drop-nil}
+use lib.ListN.{length, take, replicate, length-replicate}
+use lib.Seq.{take-all, drop-at, drop-nil}
 use Rattle.schwaemm.specs.Blocks.{ready, after, given, held}
 use Rattle.schwaemm.specs.Schwaemm.{Params, Sizes}
 use Rattle.schwaemm.proofs.Cut.{rest-below, length-held, held-cut, after-cut, given-cut, after-keeps}
@@ -14,23 +14,13 @@ use Rattle.schwaemm.proofs.States.{stateLength}
 use Rattle.tc_aead_cipher.specs.declared.phase.Direction.{Direction}
 use Rattle.tc_aead_cipher.specs.declared.phase.Phase.{Phase}
 use Rattle.tc_aead_cipher.specs.declared.phase.Phase.the-variants.{Aad, Data}
 use Rattle.tc_sparkle_aead.specs.declared.message.Point.{Point}
 use Rattle.tc_aead_cipher.specs.Checks.{keep}
 use Rattle.tc_sparkle_aead.specs.Message.{zeros, inArray, stateIn, putState, buffered, stream, blockCount, streamed}
 use Rattle.tc_aead_cipher.proofs.VariantLaws.{Small, keep-bound}
+use Rattle.tc_sparkle_aead.proofs.StateLaws.{all-inArray, inArray-zeros, state-fits}
 
 -- ---- Arrays
-
--- what stands behind a list in an array
-inArray-split : (n : ℕ) (l : List ℕ) → length l ≤ n → inArray n l ≡ l ++ take (n - length l) (zeros n)
-unfolding inArray
-inArray-split n l h =
-    let e : n ≡ length l + (n - length l) = omega arith in
-    ap (λ (k : ℕ). take k (l ++ zeros n)) e ∙ take-append-add l (zeros n) (n - length l)
-
--- the list back
-pub take-inArray : (n k : ℕ) (l : List ℕ) → length l ≤ n → length l ≡ k → take k (inArray n l) ≡ l
-take-inArray n k l h e = ap (take k) (inArray-split n l h) ∙ take-at l (take (n - length l) (zeros n)) k e
 
 pub inArray-nil : (n : ℕ) → inArray n [] ≡ zeros n
 unfolding inArray zeros
@@ -72,21 +62,21 @@ blockPoint-nil p keep step phase s =
     }
 
 module _ (p : Params) (h : Sizes p) (m : Small p) where
-  short-state : (s : List ℕ) → length s ≡ stateLength p → length s ≤ 16
-  short-state s hs = omega arith
-
   pub stateIn-array : (s : List ℕ) → length s ≡ stateLength p → stateIn p (inArray 16 s) ≡ s
   unfolding stateIn
-  stateIn-array s hs = take-inArray 16 (stateLength p) s (short-state s hs) hs
+  stateIn-array s hs = all-inArray (stateLength p) 16 s hs (state-fits p h m)
 
   pub putState-array : (s t : List ℕ) → length s ≡ stateLength p → length t ≡ stateLength p
       → putState p (inArray 16 s) t ≡ inArray 16 t
   unfolding putState
   putState-array s t hs ht =
-      ap (λ (w : List ℕ). t ++ drop (stateLength p) w) (inArray-split 16 s (short-state s hs))
-      ∙ ap (λ (w : List ℕ). t ++ w) (drop-at s _ (stateLength p) hs)
-      ∙ ap (λ (n : ℕ). t ++ take (16 - n) (zeros 16)) (hs ∙ sym ht)
-      ∙ sym (inArray-split 16 t (short-state t ht))
+      let n = stateLength p in
+      let fits = state-fits p h m in
+      rw (
+        inArray-zeros 16 (16 - n) s (omega arith),
+        drop-at s (replicate (16 - n) 0) n hs,
+        inArray-zeros 16 (16 - n) t (omega arith),
+      )
 
   -- what a point holds
   module _ (keep : ℕ) (keeps : keep ≤ p .key) where
@@ -96,7 +86,7 @@ module _ (p : Params) (h : Sizes p) (m : Small p) where
 
     pub held-back : (d : List ℕ) (k : ℕ) → k ≡ length (held (p .rate) keep d)
         → take k (inArray 64 (held (p .rate) keep d)) ≡ held (p .rate) keep d
-    held-back d k e = take-inArray 64 k (held (p .rate) keep d) (omega (arith, held-fits d)) (sym e)
+    held-back d k e = all-inArray k 64 (held (p .rate) keep d) (sym e) (omega (arith, held-fits d))
 
   pub buffered-aad : (step : List ℕ → List ℕ → List ℕ) (d : Direction) (s a : List ℕ)
       → buffered p (blockPoint p 0 step (Aad d) s a) ≡ held (p .rate) 0 a
