@@ -1,0 +1,2 @@
+-- The definition that the contract of a whole opening cites.
+pub mod OpenWhole
