@@ -1,5 +1,6 @@
--- What is claimed of the engine: every statement in full, each with the sentence of docs/00-demands.md, or of
--- docs/01-scope.md, that it renders. The words stand in specs/; the proofs stand in the other files here and are cited.
+-- What is claimed of the engine: every statement in full, each with the sentence of docs/00-demands.md, of docs/01-scope.md
+-- or of docs/02-change-requests.md that it renders. The words stand in specs/; the proofs stand in the other files here and
+-- are cited.
 --
 -- `step e c` is what a call's contract says of the call, and `run v calls` the engine after a list of calls from a new engine
 -- of variant v, refused calls included (specs/Sheet.antt of `crates/tc_sparkle_aead`); `reader v calls` is what the plain
@@ -9,7 +10,7 @@ use mathlib.Core.Logic.{_↔_}
 use mathlib.Core.Bool.{true, false, cond}
 use mathlib.Core.List.{List, [], _∷_, _++_, map}
 use Prim.Native.Nat.{ℕ, _+_, _-_, _%_, _^_, _≤_}
-use lib.ListN.{length, take}
+use lib.ListN.{length, take, drop}
 use Rattle.schwaemm.specs.Schwaemm.{seal, decrypt, tag, body as bodyOf, verified, steps}
 use Rattle.tc_aead_cipher.specs.declared.variant.SparkleVariant.{SparkleVariant}
 use Rattle.tc_aead_cipher.specs.declared.variant.SparkleVariant.the-variants.{«Schwaemm128_128»}
@@ -27,6 +28,8 @@ use Rattle.tc_aead_cipher.specs.Call.{Call}
 use Rattle.claims.specs.Shape.{Alike}
 use Rattle.tc_sparkle_aead.specs.Sheet.{step, Line, sheet, runFrom, run}
 use Rattle.tc_aead_cipher.specs.Outcome.Outcome.{ok, no}
+use Rattle.tc_aead_cipher.specs.Reply.{replyOf, outcomeOf}
+use Rattle.tc_sparkle_aead.specs.OpenWhole.{verify, openWhole}
 use Rattle.claims.specs.Reader.{newReader, readerHeld, repeated, read, reader, verdicts, loadedKey, loadedNonce}
 use Rattle.claims.specs.Reader.Verdict.{Yes, No, None}
 use Rattle.claims.specs.Steps.{counts, stepsBefore, stepsAfterInit}
@@ -37,6 +40,7 @@ use Rattle.claims.specs.Messages.{messageOf, OpenEndExact, EndsWith, Bef
 use Rattle.claims.specs.Refused.{Refused, OfStart, Unchanging, Numbered, Returned, Wiped, Unchanged, Failed, lent}
 use Rattle.claims.specs.Machine.{Machine, engine, after, Demand2, Demand3}
 use Rattle.claims.specs.Rejected.{notInitialized, fixed, untouched, skipping, inventing, finalizing}
+use Rattle.claims.specs.WholeOpening.{NotOpened, Opened}
 use Rattle.tc_sparkle_aead.specs.Worked.{worked, row}
 use Rattle.tc_sparkle_aead.proofs.WorkedSheet.{worked-sheet}
 use Rattle.claims.proofs.Demand1.{returned, refusal-numbers, refusals, start-wipes, start-number-leaves, six-leaves}
@@ -57,6 +61,8 @@ use Rattle.claims.proofs.Rejected.{untouched-fails-2, untouched-engine-
 use Rattle.claims.proofs.Rejected.{skipping-engine-fails-2, inventing-fails-2, constant-steps-fail-2}
 use Rattle.claims.proofs.Rejected.{finalizing-fails-2, finalized-outside-fails-2}
 use Rattle.claims.proofs.WorkedVerdicts.{worked-verdicts}
+use Rattle.claims.proofs.WholeOpening.{refused-exactly, opened-exactly, reply-tells, refused-leaves, opened-holds}
+use Rattle.claims.proofs.WholeOpening.{as-by-calls, sealed-opens, refused-alike}
 
 -- ---- Demand 1
 --
@@ -421,3 +427,73 @@ pub finalized-outside-final-fails-demand-2 : (m : Machine) (v : SparkleVariant) 
     (values : List ℕ) → (c ≡ Call.Mac → ⊥) → ((d : Direction) → reader v before .phase ≡ Final d → ⊥)
     → m .step (after m (m .new v) before) c .line .outcome ≡ no (10 ∷ values) → Demand2 m → ⊥
 finalized-outside-final-fails-demand-2 = finalized-outside-fails-2
+
+-- ---- Document 02, 2026-03: open whole or not
+--
+-- For every variant, every content and every length. `verify` is the answer to a packet for which there is `room`, and
+-- `openWhole` the opening's reply and output (specs/OpenWhole.antt of `crates/tc_sparkle_aead`). No engine goes in, so it is
+-- as on a new one.
+
+-- "The checks run 1, 2, 5, 4, 6, where 5 counts the packet and 4 needs its length less the tag's." A number comes back
+-- exactly where its line of `NotOpened` holds.
+pub packet-refused-by-its-line : (v : SparkleVariant) (key nonce header packet : List ℕ) (room : ℕ) (r : List ℕ)
+    → (verify v key nonce header packet room ≡ no r) ↔ NotOpened v key nonce header packet room r
+packet-refused-by-its-line = refused-exactly
+
+-- The same of success: exactly where every check passes, with the packet's length less the tag's for its count.
+pub packet-opened-exactly-when : (v : SparkleVariant) (key nonce header packet : List ℕ) (room n : ℕ)
+    → (verify v key nonce header packet room ≡ ok n) ↔ Opened v key nonce header packet room n
+packet-opened-exactly-when = opened-exactly
+
+-- The opening's reply has this answer, for the room that its output has.
+pub reply-is-the-answer : (v : SparkleVariant) (key nonce header packet out : List ℕ)
+    → outcomeOf (openWhole v key nonce header packet out .reply) ≡ verify v key nonce header packet (length out)
+reply-is-the-answer = reply-tells
+
+-- "A refusal leaves the output buffer unchanged; unlike in demand 1, 6 zeroes nothing here."
+pub refusal-leaves-the-output : (v : SparkleVariant) (key nonce header packet out r : List ℕ)
+    → verify v key nonce header packet (length out) ≡ no r
+    → openWhole v key nonce header packet out ≡ record { reply = replyOf (no r); out = out }
+refusal-leaves-the-output = refused-leaves
+
+-- "On success it holds what document 01's opening would write, and bytes past the count are untouched." The message, as
+-- long as the count, and behind it what was lent.
+pub success-holds-the-message : (v : SparkleVariant) (key nonce header packet out : List ℕ) (n : ℕ)
+    → verify v key nonce header packet (length out) ≡ ok n
+    → (openWhole v key nonce header packet out
+    ≡ record {
+      reply = replyOf (ok n);
+      out = decrypt (paramsOf v) key nonce header (bodyOf (paramsOf v) packet) ++ drop n out;
+    })
+    × (length (decrypt (paramsOf v) key nonce header (bodyOf (paramsOf v) packet)) ≡ n)
+success-holds-the-message = opened-holds
+
+-- "What document 01's opening would write": a start for opening, one data call and the end, with outputs that have room, on
+-- a new engine or after any calls, are accepted and write the bytes up to the count.
+pub success-is-what-the-calls-write : (v : SparkleVariant) (key nonce header packet out : List ℕ) (n : ℕ)
+    → verify v key nonce header packet (length out) ≡ ok n → (before : List Call) (dataOut endOut : List ℕ)
+    → Rooms (run v before)
+    (messageCalls Decrypt key nonce (paramsOf v .key) header [] (Call.Data packet dataOut ∷ []) endOut)
+    → Completes (run v before)
+    (messageCalls Decrypt key nonce (paramsOf v .key) header [] (Call.Data packet dataOut ∷ []) endOut)
+    (take n (openWhole v key nonce header packet out .out))
+    (tag (paramsOf v) key nonce header (decrypt (paramsOf v) key nonce header (bodyOf (paramsOf v) packet)))
+    (steps (paramsOf v) (length header) n % 2 ^ 64)
+success-is-what-the-calls-write = as-by-calls
+
+-- Demand 2, "opening that returns the message": a sealed packet is accepted where the sizes are right and the output has
+-- room, and the message comes back.
+pub sealed-packet-returns-the-message : (v : SparkleVariant) (key nonce header m out : List ℕ)
+    → length key ≡ paramsOf v .key → length nonce ≡ paramsOf v .rate → length m ≤ length out
+    → openWhole v key nonce header (seal (paramsOf v) key nonce header m) out
+    ≡ record { reply = replyOf (ok (length m)); out = m ++ drop (length m) out }
+sealed-packet-returns-the-message = sealed-opens
+
+-- "The agronomists' display must not hold a reading whose tag has failed, not even early blocks." Of two refused packets
+-- with equal lengths of key, nonce and packet, reply and output are equal, whatever their contents and headers.
+pub nothing-of-a-refused-packet-shows : (v : SparkleVariant)
+    (key nonce header packet key' nonce' header' packet' : List ℕ) → length key ≡ length key'
+    → length nonce ≡ length nonce' → length packet ≡ length packet' → (out r r' : List ℕ)
+    → verify v key nonce header packet (length out) ≡ no r → verify v key' nonce' header' packet' (length out) ≡ no r'
+    → openWhole v key nonce header packet out ≡ openWhole v key' nonce' header' packet' out
+nothing-of-a-refused-packet-shows = refused-alike

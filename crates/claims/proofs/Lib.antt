@@ -1,7 +1,5 @@
 -- The proofs of the claims.
 -- EngineEnd: what an end makes of an engine.
--- Points: a point of a message as a function of the data so far.
--- OpeningEnd: what an opening holds at its end.
 -- Invariant: what the engine is after a list of calls, from what the reader keeps.
 -- InvariantKept: every call keeps that.
 -- Accepted: what accepted calls write, on such an engine.
@@ -24,10 +22,9 @@
 -- EngineDemand2: the engine as a machine meets demand 2.
 -- PublicSheet: a sheet is a function of shapes and verdicts.
 -- WorkedVerdicts: the verdicts of the list that document 01 works by hand.
+-- WholeOpening: document 02, 2026-03, a packet that is opened whole or not.
 -- Claims: every final statement in full; begin there.
 pub mod EngineEnd
-pub mod Points
-pub mod OpeningEnd
 pub mod Invariant
 pub mod InvariantKept
 pub mod Accepted
@@ -50,4 +47,5 @@ pub mod EngineCounts
 pub mod EngineDemand2
 pub mod PublicSheet
 pub mod WorkedVerdicts
+pub mod WholeOpening
 pub mod Claims

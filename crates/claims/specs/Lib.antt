@@ -6,3 +6,4 @@ pub mod Messages
 pub mod Refused
 pub mod Machine
 pub mod Rejected
+pub mod WholeOpening
