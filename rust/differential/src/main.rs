@@ -4,13 +4,14 @@
 //!     cargo run --release -p differential -- exhaustive
 //!
 //! The first runs so many random lists, and half as many packets sealed or
-//! opened at once; without a seed it takes a new one and says which. The second
-//! runs all lists of a small alphabet of calls up to a length. Both say what
-//! the lists held. A difference is shown by its smallest list and ends the run
-//! with status 1. The status is 1 too where something that can come up never
-//! did, or something that cannot did (`tally.rs`): in a variant, an answer, a
-//! call in a phase and direction, or an answer to a packet at once. A few random
-//! lists do not have it all; four thousand do with nearly every seed.
+//! opened at once, each opening by both functions; without a seed it takes a new
+//! one and says which. The second runs all lists of a small alphabet of calls up
+//! to a length. Both say what the lists held. A difference is shown by its
+//! smallest list and ends the run with status 1. The status is 1 too where
+//! something that can come up never did, or something that cannot did
+//! (`tally.rs`): in a variant, an answer, a call in a phase and direction, or an
+//! answer to a packet at once. A few random lists do not have it all; four
+//! thousand do with nearly every seed.
 
 use std::process::ExitCode;
 use std::time::{SystemTime, UNIX_EPOCH};

@@ -13,22 +13,27 @@ use crate::{compare, smallest};
 #[derive(Default)]
 pub struct Tally {
     pub counts: Counts,
-    /// Packets sealed or opened at once, by variant, direction and answer.
-    packets: [[[usize; 12]; 2]; 4],
+    /// Packets sealed or opened at once, by variant, place in `WAYS` and answer.
+    packets: [[[usize; 12]; 3]; 4],
 }
 
-/// The directions of a packet at once.
-const WAYS: [&str; 2] = ["sealed", "opened"];
+/// What is done to a packet at once: the functions of the boundary.
+const WAYS: [&str; 3] = ["sealed", "opened", "opened whole"];
+
+/// Places in `WAYS`.
+const SEALED: usize = 0;
+const OPENED: usize = 1;
+const OPENED_WHOLE: usize = 2;
 
 /// Whether a packet at once can have an answer of document 01. What cannot come
 /// up is named here and nowhere else. Of lists nothing is excepted: random
 /// lists, and the two alphabets together, have in every variant every answer,
 /// and every call in every phase and direction.
-fn can_come_up(opening: bool, code: usize) -> bool {
+fn can_come_up(way: usize, code: usize) -> bool {
     match code {
         0 | 1 | 2 | 4 => true,
         // A sealing has no packet that is short and no tag that differs.
-        5 | 6 => opening,
+        5 | 6 => way != SEALED,
         // docs/HOST.md, "One packet at once": the tag size is the variant's
         // (3), a slice's length is below 2^64 (7), the calls are in order (8
         // to 10), each call has a new engine (11).
@@ -47,19 +52,27 @@ impl Tally {
         true
     }
 
-    /// Compares a packet sealed or opened at once; a difference is said.
+    /// Compares a packet sealed at once, or opened at once by both functions; a
+    /// difference is said.
     pub fn judge_packet(&mut self, case: &Case) -> bool {
-        match case.compare() {
-            Ok(code) => {
-                let ways = &mut self.packets[index(case.variant)];
-                ways[usize::from(case.start.opening)][usize::from(code)] += 1;
-                true
-            }
-            Err(what) => {
-                println!("difference: {what}");
-                false
+        let answers = if case.start.opening {
+            vec![
+                (OPENED, case.compare()),
+                (OPENED_WHOLE, case.compare_whole()),
+            ]
+        } else {
+            vec![(SEALED, case.compare())]
+        };
+        for (way, answer) in answers {
+            match answer {
+                Ok(code) => self.packets[index(case.variant)][way][usize::from(code)] += 1,
+                Err(what) => {
+                    println!("difference: {what}");
+                    return false;
+                }
             }
         }
+        true
     }
 
     /// What never came up, and what came up against `can_come_up`, in lines.
@@ -71,10 +84,10 @@ impl Tally {
         let mut faults = Vec::new();
         for variant in VARIANTS {
             let (mut missing, mut wrong) = (self.counts.missing(variant), Vec::new());
-            for (opening, way) in WAYS.iter().enumerate() {
-                let came = |code: usize| self.packets[index(variant)][opening][code] > 0;
-                let can = |code: usize| random && can_come_up(opening == 1, code);
-                let name = |codes| format!("a packet {way} at once with answer {codes}");
+            for (way, name) in WAYS.iter().enumerate() {
+                let came = |code: usize| self.packets[index(variant)][way][code] > 0;
+                let can = |code: usize| random && can_come_up(way, code);
+                let name = |codes| format!("a packet {name} at once with answer {codes}");
                 missing.extend(join((0..12).filter(|i| can(*i) && !came(*i))).map(name));
                 wrong.extend(join((0..12).filter(|i| came(*i) && !can(*i))).map(name));
             }
@@ -92,11 +105,11 @@ impl Tally {
 impl fmt::Display for Tally {
     fn fmt(&self, f: &mut fmt::Formatter) -> fmt::Result {
         write!(f, "{}", self.counts)?;
-        for (opening, way) in WAYS.iter().enumerate() {
+        for (way, name) in WAYS.iter().enumerate() {
             let codes: [usize; 12] =
-                std::array::from_fn(|i| self.packets.iter().map(|ways| ways[opening][i]).sum());
+                std::array::from_fn(|i| self.packets.iter().map(|ways| ways[way][i]).sum());
             let all: usize = codes.iter().sum();
-            writeln!(f, "packets {way} at once {all}, by answer: {codes:?}")?;
+            writeln!(f, "packets {name} at once {all}, by answer: {codes:?}")?;
         }
         Ok(())
     }
@@ -110,12 +123,12 @@ mod tests {
 
     /// All that can come up, once.
     fn full() -> Tally {
-        let codes = |opening| std::array::from_fn(|i| usize::from(can_come_up(opening, i)));
+        let codes = |way| std::array::from_fn(|i| usize::from(can_come_up(way, i)));
         let mut tally = Tally::default();
         tally.counts.lists = 1;
         tally.counts.codes = [[1; 12]; 4];
         tally.counts.places = [[[1; 8]; 9]; 4];
-        tally.packets = [[codes(false), codes(true)]; 4];
+        tally.packets = [std::array::from_fn(codes); 4];
         tally
     }
 
@@ -133,14 +146,14 @@ mod tests {
             for code in 0..12 {
                 let change = |tally: &mut Tally| tally.counts.codes[v][code] = 0;
                 fault(&change, "never came up", format!("answer {code}"));
-                for (opening, way) in WAYS.iter().enumerate() {
-                    let what = if can_come_up(opening == 1, code) {
+                for (way, name) in WAYS.iter().enumerate() {
+                    let what = if can_come_up(way, code) {
                         "never came up"
                     } else {
                         "came up and cannot"
                     };
-                    let change = |tally: &mut Tally| tally.packets[v][opening][code] ^= 1;
-                    let name = format!("a packet {way} at once with answer {code}");
+                    let change = |tally: &mut Tally| tally.packets[v][way][code] ^= 1;
+                    let name = format!("a packet {name} at once with answer {code}");
                     fault(&change, what, name);
                 }
             }

@@ -342,7 +342,7 @@ fn one_shot_without_a_variant() {
             header: &[3; 5],
             message: &[4; 40],
         };
-        for call in [host::seal, host::open] {
+        for call in [host::seal, host::open, host::open_whole] {
             let mut output = [LENT; 80];
             let done = call(packet, &mut output);
             assert_eq!(done, returned(NO_VARIANT, [0, 0]));

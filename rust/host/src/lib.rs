@@ -1,5 +1,5 @@
-//! The host boundary of the port (docs/HOST.md): its three functions, and what
-//! writes lists for them and reads their answers (`call_list`). Nothing is
+//! The host boundary of the port (docs/HOST.md): its four functions, and what
+//! writes lists for one of them and reads its answers (`call_list`). Nothing is
 //! checked or decided here; the crate `schwaemm` is the one for users.
 
 pub use call_list::{ANSWER_HEAD, Answer, Answers, CALL_HEAD, Direction, List, Wiped, wipe};
@@ -20,7 +20,7 @@ pub struct Ran {
     pub place: usize,
 }
 
-/// What `schwaemm_seal` or `schwaemm_open` returned.
+/// What `schwaemm_seal`, `schwaemm_open` or `schwaemm_open_whole` returned.
 #[derive(Clone, Copy, Debug, PartialEq, Eq)]
 pub struct Done {
     /// 0, document 01's number of the first refusal, or [`NO_VARIANT`].
@@ -84,6 +84,21 @@ unsafe extern "C" {
         first: *mut usize,
         second: *mut usize,
     ) -> u8;
+    fn schwaemm_open_whole(
+        variant: u8,
+        key: *const u8,
+        key_len: usize,
+        nonce: *const u8,
+        nonce_len: usize,
+        header: *const u8,
+        header_len: usize,
+        packet: *const u8,
+        packet_len: usize,
+        output: *mut u8,
+        output_len: usize,
+        first: *mut usize,
+        second: *mut usize,
+    ) -> u8;
 }
 
 /// Runs a call list on a new engine and writes its answers.
@@ -103,7 +118,7 @@ pub fn run(list: &[u8], answers: &mut [u8]) -> Ran {
     Ran { code, place }
 }
 
-/// Calls one of the two functions of a whole packet, which take the same.
+/// Calls one of the three functions of a whole packet, which take the same.
 macro_rules! at_once {
     ($function:ident, $packet:expr, $output:expr) => {{
         let (p, output): (Packet, &mut [u8]) = ($packet, $output);
@@ -142,4 +157,10 @@ pub fn seal(p: Packet, output: &mut [u8]) -> Done {
 /// Opens a packet: init, one data call and the end on a new engine.
 pub fn open(p: Packet, output: &mut [u8]) -> Done {
     at_once!(schwaemm_open, p, output)
+}
+
+/// Opens a packet in two passes: the first verifies the tag and writes nothing,
+/// the second writes the message. A refusal leaves the output as it was lent.
+pub fn open_whole(p: Packet, output: &mut [u8]) -> Done {
+    at_once!(schwaemm_open_whole, p, output)
 }

@@ -1,6 +1,6 @@
 //! The contenders: each seals or opens one packet on a new engine.
 
-use host::{Direction, Packet};
+use host::{Direction, Done, Packet};
 use tc_aead_cipher::{AeadCipher, AeadCipherInit, AeadParamsRef};
 use tc_block_cipher::CipherDirection;
 use tc_sparkle_aead::{SparkleEngine, SparkleVariant};
@@ -28,10 +28,12 @@ pub enum Contender {
     RattleLibrary,
     /// The port: a list of init, one data call and end, written beforehand.
     RattleList,
+    /// The port: `schwaemm_open_whole`, which only opens.
+    RattleWhole,
 }
 
 impl Contender {
-    /// All contenders, in the order of the tables.
+    /// Those that seal and open, in the order of the tables.
     pub const ALL: [Self; 5] = [
         Self::Rust,
         Self::C,
@@ -41,12 +43,19 @@ impl Contender {
     ];
 
     /// The original and the port, whose instructions and stack are looked at.
-    pub const ORIGINAL_AND_PORT: [Self; 4] = [
-        Self::Rust,
-        Self::Rattle,
-        Self::RattleLibrary,
-        Self::RattleList,
-    ];
+    pub fn original_and_port(operation: Operation) -> &'static [Self] {
+        const ALL: [Contender; 5] = [
+            Contender::Rust,
+            Contender::Rattle,
+            Contender::RattleLibrary,
+            Contender::RattleList,
+            Contender::RattleWhole,
+        ];
+        match operation {
+            Operation::Seal => &ALL[..4],
+            Operation::Open => &ALL,
+        }
+    }
 
     /// The contender's name in tables and files.
     pub fn name(self) -> &'static str {
@@ -56,6 +65,7 @@ impl Contender {
             Self::Rattle => "Rattle",
             Self::RattleLibrary => "Rattle library",
             Self::RattleList => "Rattle list",
+            Self::RattleWhole => "Rattle whole",
         }
     }
 }
@@ -153,17 +163,21 @@ impl Job {
     ///
     /// # Panics
     ///
-    /// Where it is refused.
+    /// Where it is refused, or `RattleWhole` has a message to seal.
     pub fn run(&mut self, contender: Contender) {
         match contender {
             Contender::Rust => self.rust(),
             Contender::C => self.c(),
-            Contender::Rattle => self.rattle(),
+            Contender::Rattle => self.rattle(match self.operation {
+                Operation::Seal => host::seal,
+                Operation::Open => host::open,
+            }),
             Contender::RattleLibrary => self.library(),
             Contender::RattleList => {
                 let ran = host::run(self.list.bytes(), &mut self.answers);
                 assert_eq!(ran.code, 0);
             }
+            Contender::RattleWhole => self.rattle(host::open_whole),
         }
     }
 
@@ -194,8 +208,9 @@ impl Job {
         }
     }
 
-    #[inline(never)]
-    fn rattle(&mut self) {
+    /// What the boundary's functions for a packet take: what they read, and the
+    /// output.
+    pub fn lend(&mut self) -> (Packet<'_>, &mut [u8]) {
         let packet = Packet {
             variant: self.variant as u8 + 1,
             key: &self.key,
@@ -203,10 +218,13 @@ impl Job {
             header: &self.header,
             message: &self.input,
         };
-        let done = match self.operation {
-            Operation::Seal => host::seal(packet, &mut self.output),
-            Operation::Open => host::open(packet, &mut self.output),
-        };
+        (packet, &mut self.output)
+    }
+
+    #[inline(never)]
+    fn rattle(&mut self, call: fn(Packet, &mut [u8]) -> Done) {
+        let (packet, output) = self.lend();
+        let done = call(packet, output);
         assert_eq!((done.code, done.first), (0, self.output.len()));
     }
 

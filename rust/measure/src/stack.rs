@@ -60,7 +60,7 @@ impl Left {
 
 #[cfg(test)]
 mod tests {
-    use super::run;
+    use super::{Left, run};
     use crate::contenders::{Contender, Job, Operation, VARIANTS};
     use std::hint::black_box;
 
@@ -77,11 +77,34 @@ mod tests {
                     job.output[84..].to_vec(),
                 ];
                 let left = run(|| job.run(Contender::RattleLibrary));
-                for secret in secrets {
+                for secret in &secrets {
                     assert_eq!(left.copies(&secret[..16]), 0);
+                }
+                if operation == Operation::Open {
+                    let left = [0, 1].map(|damage| whole(&mut job, damage));
+                    for secret in &secrets {
+                        assert_eq!(left.each_ref().map(|l| l.copies(&secret[..16])), [0, 0]);
+                    }
                 }
             }
         }
+    }
+
+    /// The library opens a packet whole or not at all, its last byte changed by
+    /// `damage`.
+    fn whole(job: &mut Job, damage: u8) -> Left {
+        let variant = schwaemm::Variant::ALL[job.variant];
+        *job.input.last_mut().expect("a tag") ^= damage;
+        let mut opened = false;
+        let left = run(|| {
+            let (packet, output) = job.lend();
+            let (key, nonce, header) = (packet.key, packet.nonce, packet.header);
+            let answer =
+                schwaemm::open_whole_into(variant, key, nonce, header, packet.message, output);
+            opened = answer.is_ok();
+        });
+        assert_eq!(opened, damage == 0);
+        left
     }
 
     #[test]

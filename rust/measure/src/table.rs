@@ -162,7 +162,9 @@ fn line_style(contender: Contender) -> &'static str {
     match contender {
         Contender::Rust => "stroke=\"#c05a00\"",
         Contender::C => "stroke=\"#2f7d32\"",
-        Contender::Rattle | Contender::RattleLibrary => "stroke=\"#1f5fbf\"",
+        Contender::Rattle | Contender::RattleLibrary | Contender::RattleWhole => {
+            "stroke=\"#1f5fbf\""
+        }
         Contender::RattleList => "stroke=\"#1f5fbf\" stroke-dasharray=\"4 3\"",
     }
 }

@@ -13,6 +13,7 @@ const fn tool(a: u8, b: u8) -> u64 {
 
 const RUNNING_ON_VALGRIND: u64 = 0x1001;
 const COUNT_ERRORS: u64 = 0x1201;
+const MAKE_MEM_NOACCESS: u64 = tool(b'M', b'C');
 const MAKE_MEM_UNDEFINED: u64 = tool(b'M', b'C') + 1;
 const MAKE_MEM_DEFINED: u64 = tool(b'M', b'C') + 2;
 const ZERO_STATS: u64 = tool(b'C', b'T') + 1;
@@ -46,6 +47,11 @@ pub fn running() -> bool {
 /// How many errors valgrind has found so far.
 pub fn errors() -> u64 {
     request(COUNT_ERRORS, 0, 0)
+}
+
+/// Shuts bytes off: memcheck reports whoever reads or writes them.
+pub fn shut_off(bytes: &[u8]) {
+    request(MAKE_MEM_NOACCESS, bytes.as_ptr() as u64, bytes.len() as u64);
 }
 
 /// Marks bytes as undefined: memcheck reports every jump and every address

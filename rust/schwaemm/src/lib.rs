@@ -1,27 +1,47 @@
 //! Schwaemm authenticated encryption by the proved engine of this repository,
-//! which is linked as the archives `libhost.a`, for lists of calls, and
-//! `libpacket.a`, for whole packets (docs/HOST.md).
+//! which is linked as the archives `libopen_whole.a`, for packets that are opened
+//! whole or not at all, `libpacket.a`, for packets that are sealed or opened at
+//! once, and `libhost.a`, for lists of calls (docs/HOST.md).
 //!
 //! ```
-//! use schwaemm::{Variant, open, seal};
+//! use schwaemm::{Variant, open_whole_into, seal};
 //!
 //! let variant = Variant::Schwaemm128_128;
 //! let key = [7; 16];
 //! let nonce = [9; 16]; // another one for every message under this key
 //! let packet = seal(variant, &key, &nonce, b"probe 12", b"nitrate 4.1")?;
-//! let message = open(variant, &key, &nonce, b"probe 12", &packet)?;
-//! assert_eq!(message, b"nitrate 4.1");
+//! let mut display = [0; 32];
+//! let n = open_whole_into(variant, &key, &nonce, b"probe 12", &packet, &mut display)?;
+//! assert_eq!(display[..n], *b"nitrate 4.1");
 //! # Ok::<(), schwaemm::Error>(())
 //! ```
 //!
 //! | to | take |
 //! |---|---|
-//! | seal or open a packet that is there as a whole | [`seal`], [`open`]; into a slice: [`seal_into`], [`open_into`] |
+//! | open a packet that is there as a whole | [`open_whole_into`]; to get a vector: [`open_whole`] |
+//! | the same in about half the time, where nobody reads the output before the answer | [`open_into`]; to get a vector: [`open`] |
+//! | seal a message that is there as a whole | [`seal`]; into a slice: [`seal_into`] |
 //! | seal or open a message that comes in pieces, or learn its tag and steps | [`Message`] |
 //! | make any calls of an engine: resets, repeated starts, length queries | [`Calls`] |
 //!
 //! A refusal is an [`Error`] with document 01's number. Key, nonce and tag have
 //! the lengths that [`Variant`] gives.
+//!
+//! # Which opening
+//!
+//! [`open_whole_into`] goes over the packet twice: once to verify the tag, which
+//! writes nothing, and once to write the message. Where it refuses, the output is
+//! exactly as it was lent. So take it where the output is a display's
+//! buffer, or memory that is shown to another reader, and take it where you are
+//! not sure.
+//!
+//! [`open_into`] goes over the packet once, and writes bytes of the message
+//! before it knows whether the tag is right; where it is not, it overwrites them
+//! with zeros. Take it where time counts and nobody reads the output before the
+//! answer.
+//!
+//! Nobody reads a vector before it is returned. So [`open`] and [`open_whole`]
+//! differ in time, and in whether the vector ever held what was not verified.
 //!
 //! # What crosses the boundary
 //!
@@ -48,12 +68,14 @@
 //! Lists and answers are overwritten with zeros when they are dropped, and
 //! when a list has to move as it grows, by writes that the compiler has to
 //! keep. Where [`open`], [`open_into`] or an opening [`Message`] fails, what
-//! could have been written of the message is overwritten too. [`Calls`] hands
-//! out what each call wrote, of an opening that fails too. After each call of an
-//! archive 8 KiB of the stack below the caller's are overwritten: an engine is a
-//! value there, and its copies hold key and state. That is more than the calls
-//! take (docs/PERFORMANCE.md), and as much as can be done from outside; nothing
-//! is proved of it.
+//! could have been written of the message is overwritten too. [`open_whole`] and
+//! [`open_whole_into`] write nothing of such a message, so nothing is overwritten.
+//! [`Calls`] hands out what each call wrote, of an opening that fails too. After
+//! each call of an archive 8 KiB of the stack below the caller's are overwritten:
+//! engines and states are values there, and their copies hold the key, the state
+//! and a block of the message. That is more than the calls take
+//! (docs/PERFORMANCE.md), and as much as can be done from outside; nothing is
+//! proved of it.
 //!
 //! Not wiped: the slices that the caller lends, what is handed out, registers,
 //! and what the system made of any of these. Nothing is claimed of timing
@@ -69,5 +91,5 @@ mod variant;
 pub use calls::{Answer, Calls, Direction};
 pub use error::Error;
 pub use message::{Finished, Message};
-pub use packet::{open, open_into, seal, seal_into};
+pub use packet::{open, open_into, open_whole, open_whole_into, seal, seal_into};
 pub use variant::Variant;

@@ -1,7 +1,8 @@
 //! The functions and types for users, on every variant.
 
 use schwaemm::{
-    Calls, Direction, Error, Finished, Message, Variant, open, open_into, seal, seal_into,
+    Calls, Direction, Error, Finished, Message, Variant, open, open_into, open_whole,
+    open_whole_into, seal, seal_into,
 };
 
 /// A key, a nonce and a header that differ in each variant.
@@ -26,6 +27,11 @@ fn lengths(variant: Variant) -> Vec<usize> {
 
 fn message(n: usize) -> Vec<u8> {
     (0..n).map(|i| i as u8).collect()
+}
+
+/// What an output holds before a call; none of its bytes is 0.
+fn lent(n: usize) -> Vec<u8> {
+    (0..n).map(|i| 0x80 | i as u8).collect()
 }
 
 #[test]
@@ -71,19 +77,23 @@ fn round_trips() {
             let message = message(n);
             let packet = seal(variant, &key, &nonce, &header, &message).unwrap();
             assert_eq!(packet.len(), n + variant.tag_bytes());
-            assert_eq!(
-                open(variant, &key, &nonce, &header, &packet).unwrap(),
-                message
-            );
+            for call in [open, open_whole] {
+                let opened = call(variant, &key, &nonce, &header, &packet);
+                assert_eq!(opened.unwrap(), message);
+            }
 
             let mut output = vec![0xee; packet.len() + 5];
             let written = seal_into(variant, &key, &nonce, &header, &message, &mut output);
             assert_eq!(written, Ok(packet.len()));
             assert_eq!(output[..packet.len()], packet);
             assert_eq!(output[packet.len()..], [0xee; 5]);
-            let written = open_into(variant, &key, &nonce, &header, &packet, &mut output);
-            assert_eq!(written, Ok(n));
-            assert_eq!(output[..n], message);
+            for call in [open_into, open_whole_into] {
+                let mut output = lent(n + 9);
+                let written = call(variant, &key, &nonce, &header, &packet, &mut output);
+                assert_eq!(written, Ok(n));
+                assert_eq!(output[..n], message);
+                assert_eq!(output[n..], lent(n + 9)[n..]);
+            }
 
             for cut in [1, 7, 32, 2000] {
                 let mut sealing = Message::sealing(variant, &key, &nonce);
@@ -149,7 +159,7 @@ fn wrong_lengths() {
             actual: nonce.len() - 1,
         };
         let packet = [0; 100];
-        for call in [seal, open] {
+        for call in [seal, open, open_whole] {
             assert_eq!(call(variant, short_key, &nonce, &header, &packet), Err(one));
             assert_eq!(call(variant, &key, short_nonce, &header, &packet), Err(two));
             let both = call(variant, short_key, short_nonce, &header, &packet);
@@ -208,7 +218,9 @@ fn failed_tags() {
             let last = packet.len() - 1;
             packet[last] ^= 0x80;
             let failed = Error::AuthenticationFailed;
-            assert_eq!(open(variant, &key, &nonce, &header, &packet), Err(failed));
+            for call in [open, open_whole] {
+                assert_eq!(call(variant, &key, &nonce, &header, &packet), Err(failed));
+            }
             let mut output = vec![0xee; n + 9];
             let answer = open_into(variant, &key, &nonce, &header, &packet, &mut output);
             assert_eq!(answer, Err(failed));
@@ -222,6 +234,64 @@ fn failed_tags() {
     }
 }
 
+/// Opening whole or not at all: as one fault after the other is mended, 1, 2, 5,
+/// 4 and 6 come in turn, and each leaves the output as it was lent. Then the
+/// message comes.
+#[test]
+fn open_whole_refuses_in_turn() {
+    for variant in Variant::ALL {
+        let (key, nonce, header) = given(variant);
+        let (short_key, short_nonce) = (&key[1..], &nonce[1..]);
+        let minimum = variant.tag_bytes();
+        for n in lengths(variant) {
+            let packet = seal(variant, &key, &nonce, &header, &message(n)).unwrap();
+            let mut damaged = packet.clone();
+            damaged[n / 2] ^= 1;
+            let short = &damaged[..minimum - 1];
+            let refused = |key: &[u8], nonce: &[u8], packet: &[u8], room| {
+                let mut output = lent(room);
+                let answer = open_whole_into(variant, key, nonce, &header, packet, &mut output);
+                assert_eq!(output, lent(room));
+                answer.unwrap_err()
+            };
+            for room in [0, n / 2, n, n + 9] {
+                let one = Error::InvalidKeyLength {
+                    actual: key.len() - 1,
+                };
+                assert_eq!(refused(short_key, short_nonce, short, room), one);
+                assert_eq!(refused(short_key, &nonce, &packet, room), one);
+                let two = Error::InvalidNonceLength {
+                    actual: nonce.len() - 1,
+                };
+                assert_eq!(refused(&key, short_nonce, short, room), two);
+                assert_eq!(refused(&key, short_nonce, &packet, room), two);
+                let five = Error::CiphertextTooShort {
+                    minimum,
+                    actual: minimum - 1,
+                };
+                assert_eq!(refused(&key, &nonce, short, room), five);
+                if room < n {
+                    let four = Error::OutputTooShort {
+                        required: n,
+                        available: room,
+                    };
+                    assert_eq!(refused(&key, &nonce, &damaged, room), four);
+                    assert_eq!(refused(&key, &nonce, &packet, room), four);
+                } else {
+                    let six = Error::AuthenticationFailed;
+                    assert_eq!(refused(&key, &nonce, &damaged, room), six);
+                    let mut output = lent(room);
+                    let answer =
+                        open_whole_into(variant, &key, &nonce, &header, &packet, &mut output);
+                    assert_eq!(answer, Ok(n));
+                    assert_eq!(output[..n], message(n));
+                    assert_eq!(output[n..], lent(room)[n..]);
+                }
+            }
+        }
+    }
+}
+
 #[test]
 fn short_ciphertexts() {
     for variant in Variant::ALL {
@@ -230,7 +300,9 @@ fn short_ciphertexts() {
         for actual in [0, 1, minimum - 1] {
             let error = Error::CiphertextTooShort { minimum, actual };
             let packet = vec![0; actual];
-            assert_eq!(open(variant, &key, &nonce, &header, &packet), Err(error));
+            for call in [open, open_whole] {
+                assert_eq!(call(variant, &key, &nonce, &header, &packet), Err(error));
+            }
             let mut opening = Message::opening(variant, &key, &nonce);
             opening.header(&header);
             if actual > 0 {

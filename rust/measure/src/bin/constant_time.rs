@@ -1,7 +1,9 @@
 //! Sealing and opening with contents that memcheck takes for undefined: it then
 //! reports every jump and every address that depends on them. tools/constant-time
 //! runs this program under it. Keys, nonces, headers, messages and packets are
-//! undefined; lengths, the variant and the heads of a list are not.
+//! undefined; lengths, the variant and the heads of a list are not. Where an opening
+//! that is whole or not at all meets a wrong tag, the output is shut off: memcheck
+//! reports whoever reads or writes a byte of it.
 //!
 //! Each line is a case: its name, how many reports are expected (an answer depends
 //! on contents by design at so many places), and how many came.
@@ -10,14 +12,15 @@ use std::hint::black_box;
 use std::ops::Range;
 use std::process::ExitCode;
 
-use host::{Direction, List, Packet};
+use host::{Direction, Done, List, Packet};
 use measure::contenders::{Job, Operation, VARIANTS};
-use measure::valgrind::{errors, make_defined, make_undefined, running};
+use measure::valgrind::{errors, make_defined, make_undefined, running, shut_off};
 
 /// The places of an opened packet that depend on whether the tag is right, those of
-/// a list that opens, and those of a second start that depend on whether key and
-/// nonce are the last loaded ones.
+/// one that is opened whole or not at all, those of a list that opens, and those of
+/// a second start that depend on whether key and nonce are the last loaded ones.
 const PACKET_OPENS: u64 = 1;
+const WHOLE_OPENS: u64 = 1;
 const LIST_OPENS: u64 = 1;
 const SECOND_START: u64 = 1;
 
@@ -44,52 +47,90 @@ fn planted_address(secret: &[u8], table: &[u8; 256]) {
     black_box(black_box(table)[usize::from(black_box(secret)[3])]);
 }
 
-/// The two controls: without their reports, silence says nothing.
+/// A write to bytes that are shut off, which has to be reported.
+#[inline(never)]
+fn planted_write(shut: &mut [u8]) {
+    black_box(shut)[3] = 7;
+}
+
+/// The three controls: without their reports, silence says nothing.
 fn controls() -> bool {
-    let (secret, table) = (vec![1_u8; 16], [2_u8; 256]);
+    let (secret, table, mut shut) = (vec![1_u8; 16], [2_u8; 256], vec![3_u8; 16]);
     make_undefined(&secret);
+    shut_off(&shut);
     let jump = case("control, a planted jump", 1, || planted_jump(&secret));
     let address = case("control, a planted address", 1, || {
         planted_address(&secret, &table);
     });
-    jump && address
+    let write = case("control, a planted write", 1, || planted_write(&mut shut));
+    jump && address && write
+}
+
+/// A function of the boundary for a packet, and how many reports it may have.
+struct Function {
+    name: &'static str,
+    operation: Operation,
+    call: fn(Packet, &mut [u8]) -> Done,
+    expected: u64,
+}
+
+const SEAL: Function = Function {
+    name: "seal",
+    operation: Operation::Seal,
+    call: host::seal,
+    expected: 0,
+};
+
+const OPEN: Function = Function {
+    name: "open",
+    operation: Operation::Open,
+    call: host::open,
+    expected: PACKET_OPENS,
+};
+
+const OPEN_WHOLE: Function = Function {
+    name: "open whole",
+    operation: Operation::Open,
+    call: host::open_whole,
+    expected: WHOLE_OPENS,
+};
+
+/// What a packet's call meets.
+#[derive(Clone, Copy, PartialEq)]
+enum Given {
+    Right,
+    Damaged,
+    /// Damaged, and nobody may read or write the output.
+    OutputShutOff,
+}
+
+impl Given {
+    fn name(self, length: usize) -> String {
+        match self {
+            Self::Right => format!("a packet of {length}"),
+            Self::Damaged => format!("a damaged packet of {length}"),
+            Self::OutputShutOff => format!("a damaged packet of {length}, the output shut off"),
+        }
+    }
 }
 
 /// One packet at once.
-fn packet(variant: usize, operation: Operation, length: usize, damaged: bool) -> bool {
-    let mut job = Job::new(variant, operation, 37, length);
-    if damaged {
+fn packet(variant: usize, function: &Function, length: usize, given: Given) -> bool {
+    let mut job = Job::new(variant, function.operation, 37, length);
+    if given != Given::Right {
         *job.input.last_mut().expect("a tag") ^= 1;
     }
     for bytes in [&job.key, &job.nonce, &job.header, &job.input] {
         make_undefined(bytes);
     }
-    let expected = match operation {
-        Operation::Seal => 0,
-        Operation::Open => PACKET_OPENS,
-    };
-    let what = if damaged {
-        "a damaged packet"
-    } else {
-        "a packet"
-    };
-    let name = format!(
-        "variant {}, {} {what} of {length}",
-        variant + 1,
-        operation.name()
-    );
-    case(&name, expected, || {
-        let packet = Packet {
-            variant: variant as u8 + 1,
-            key: &job.key,
-            nonce: &job.nonce,
-            header: &job.header,
-            message: &job.input,
-        };
-        match operation {
-            Operation::Seal => black_box(host::seal(packet, &mut job.output)),
-            Operation::Open => black_box(host::open(packet, &mut job.output)),
-        };
+    if given == Given::OutputShutOff {
+        shut_off(&job.output);
+    }
+    let (name, what) = (function.name, given.name(length));
+    let name = format!("variant {}, {name} {what}", variant + 1);
+    case(&name, function.expected, || {
+        let (packet, output) = job.lend();
+        black_box((function.call)(packet, output));
     })
 }
 
@@ -217,9 +258,12 @@ fn main() -> ExitCode {
     let mut fine = controls();
     for variant in 0..VARIANTS.len() {
         for length in [0, 1, 64, 1000] {
-            fine &= packet(variant, Operation::Seal, length, false);
-            fine &= packet(variant, Operation::Open, length, false);
-            fine &= packet(variant, Operation::Open, length, true);
+            fine &= packet(variant, &SEAL, length, Given::Right);
+            for function in [OPEN, OPEN_WHOLE] {
+                fine &= packet(variant, &function, length, Given::Right);
+                fine &= packet(variant, &function, length, Given::Damaged);
+            }
+            fine &= packet(variant, &OPEN_WHOLE, length, Given::OutputShutOff);
         }
         for second in Second::ALL {
             let expected = match second {

@@ -21,7 +21,7 @@ fn main() -> ExitCode {
             for header in HEADERS {
                 for length in LENGTHS {
                     let mut job = Job::new(variant, operation, header, length);
-                    for contender in Contender::ORIGINAL_AND_PORT {
+                    for contender in Contender::original_and_port(operation).iter().copied() {
                         let name = format!(
                             "{},{},{header},{length},{}",
                             variant + 1,

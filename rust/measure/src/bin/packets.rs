@@ -12,91 +12,27 @@
 
 use std::hint::black_box;
 use std::process::ExitCode;
-use std::time::{Duration, Instant};
 
 use measure::contenders::{Contender, Job, Operation, VARIANTS};
+use measure::rounds::{HEADERS, LENGTHS, ROUNDS, in_turn, parse_rounds};
 use measure::table::{COLUMNS, Row, plot, table};
-
-/// Message and header lengths.
-const LENGTHS: [usize; 5] = [16, 64, 1 << 10, 64 << 10, 1 << 20];
-const HEADERS: [usize; 2] = [0, 32];
-
-/// Rounds, where `--rounds` does not say.
-const ROUNDS: usize = 21;
-
-/// How long a contender runs in one round, where one packet does not take
-/// longer.
-const SLICE: Duration = Duration::from_millis(2);
-
-/// One contender's packet with its measurements.
-struct Entry {
-    contender: Contender,
-    calls: u32,
-    times: Vec<f64>,
-}
-
-impl Entry {
-    fn run(&self, job: &mut Job, calls: u32) -> Duration {
-        let contender = black_box(self.contender);
-        let start = Instant::now();
-        for _ in 0..calls {
-            black_box(&mut *job).run(contender);
-        }
-        start.elapsed()
-    }
-
-    /// Warms up and sets how many calls fill a round's slice.
-    fn warm_up(&mut self, job: &mut Job) {
-        let mut calls = 1;
-        loop {
-            let elapsed = self.run(job, calls);
-            if elapsed >= SLICE {
-                let share = SLICE.as_secs_f64() / elapsed.as_secs_f64();
-                self.calls = ((f64::from(calls) * share) as u32).max(1);
-                return;
-            }
-            calls *= 2;
-        }
-    }
-
-    fn round(&mut self, job: &mut Job) {
-        let elapsed = self.run(job, self.calls);
-        self.times
-            .push(elapsed.as_nanos() as f64 / f64::from(self.calls));
-    }
-
-    fn row(&self, job: &Job, length: usize) -> Row {
-        let mut times = self.times.clone();
-        times.sort_by(f64::total_cmp);
-        let (low, high) = (times[(times.len() - 1) / 2], times[times.len() / 2]);
-        Row {
-            variant: job.variant,
-            operation: job.operation,
-            header: job.header.len(),
-            length,
-            contender: self.contender,
-            median: (low + high) / 2.0,
-            fastest: times[0],
-        }
-    }
-}
 
 /// Measures one packet with all contenders in turn.
 fn measure(job: &mut Job, length: usize, rounds: usize) -> Vec<Row> {
-    let mut entries = Contender::ALL.map(|contender| Entry {
-        contender,
-        calls: 1,
-        times: Vec::with_capacity(rounds),
+    let times = in_turn(Contender::ALL, rounds, |contender| {
+        black_box(&mut *job).run(contender);
     });
-    for entry in &mut entries {
-        entry.warm_up(job);
-    }
-    for _ in 0..rounds {
-        for entry in &mut entries {
-            entry.round(job);
-        }
-    }
-    entries.iter().map(|entry| entry.row(job, length)).collect()
+    let rows = Contender::ALL.into_iter().zip(times);
+    rows.map(|(contender, times)| Row {
+        variant: job.variant,
+        operation: job.operation,
+        header: job.header.len(),
+        length,
+        contender,
+        median: times.median,
+        fastest: times.fastest,
+    })
+    .collect()
 }
 
 /// Every packet, on every variant.
@@ -136,7 +72,7 @@ fn benchmark(arguments: &[String]) -> Result<(), String> {
     }
     for pair in words.chunks(2) {
         match pair {
-            ["--rounds", n] => rounds = n.parse().map_err(|_| format!("not a number: {n}"))?,
+            ["--rounds", n] => rounds = parse_rounds(n)?,
             ["--csv", path] => csv = Some(*path),
             ["--svg", path] => svg = Some(*path),
             _ => return Err(
@@ -145,7 +81,7 @@ fn benchmark(arguments: &[String]) -> Result<(), String> {
             ),
         }
     }
-    let rows = measure_all(rounds.max(1))?;
+    let rows = measure_all(rounds)?;
     if cfg!(debug_assertions) {
         println!("A debug build: these numbers say nothing about speed.\n");
     }

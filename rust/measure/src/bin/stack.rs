@@ -18,7 +18,7 @@ fn main() {
     for variant in 0..VARIANTS.len() {
         for operation in Operation::ALL {
             for length in [64, 1 << 10] {
-                for contender in Contender::ORIGINAL_AND_PORT {
+                for contender in Contender::original_and_port(operation).iter().copied() {
                     let mut job = Job::new(variant, operation, 32, length);
                     if operation == Operation::Open {
                         job.run(Contender::Rust);
