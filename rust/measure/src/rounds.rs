@@ -14,22 +14,32 @@ pub const ROUNDS: usize = 21;
 /// How long an entry runs in one round, where one call does not take longer.
 const SLICE: Duration = Duration::from_millis(2);
 
-/// Median and fastest of the rounds, nanoseconds a call.
-#[derive(Clone, Copy, Debug, PartialEq)]
-pub struct Times {
-    pub median: f64,
-    pub fastest: f64,
+/// The median of numbers, of which there is one at least.
+fn median(mut numbers: Vec<f64>) -> f64 {
+    numbers.sort_by(f64::total_cmp);
+    let (low, high) = (numbers[(numbers.len() - 1) / 2], numbers[numbers.len() / 2]);
+    (low + high) / 2.0
 }
 
+/// What an entry takes, nanoseconds a call, round by round; there is one round at
+/// least.
+#[derive(Clone, Debug)]
+pub struct Times(Vec<f64>);
+
 impl Times {
-    /// Of the rounds' times, of which there is one at least.
-    fn of(mut times: Vec<f64>) -> Self {
-        times.sort_by(f64::total_cmp);
-        let (low, high) = (times[(times.len() - 1) / 2], times[times.len() / 2]);
-        Self {
-            median: (low + high) / 2.0,
-            fastest: times[0],
-        }
+    pub fn median(&self) -> f64 {
+        median(self.0.clone())
+    }
+
+    pub fn fastest(&self) -> f64 {
+        self.0.iter().copied().fold(f64::INFINITY, f64::min)
+    }
+
+    /// The median of the rounds' ratios to another entry's times. The two sides of
+    /// a round's ratio follow each other closely, so it does not matter where the
+    /// machine is slower for some rounds.
+    pub fn ratio_to(&self, other: &Self) -> f64 {
+        median(self.0.iter().zip(&other.0).map(|(a, b)| a / b).collect())
     }
 }
 
@@ -77,7 +87,7 @@ pub fn in_turn<T: Copy, const N: usize>(
             times[i].push(elapsed.as_nanos() as f64 / f64::from(calls[i]));
         }
     }
-    times.map(Times::of)
+    times.map(Times)
 }
 
 /// The number of rounds that a word of the command line gives.
@@ -95,12 +105,22 @@ mod tests {
     #[test]
     fn medians() {
         let of = |times: &[f64]| {
-            let Times { median, fastest } = Times::of(times.to_vec());
-            (median, fastest)
+            let times = Times(times.to_vec());
+            (times.median(), times.fastest())
         };
         assert_eq!(of(&[3.0]), (3.0, 3.0));
         assert_eq!(of(&[9.0, 1.0, 2.0]), (2.0, 1.0));
         assert_eq!(of(&[9.0, 1.0, 2.0, 4.0]), (3.0, 1.0));
+    }
+
+    /// A machine that is three times as slow in one round, in the midst of which
+    /// it recovers, changes no more than that round's ratio.
+    #[test]
+    fn ratios_round_by_round() {
+        let (one, two) = (Times(vec![2.0, 6.0, 2.0]), Times(vec![4.0, 4.0, 4.0]));
+        assert_eq!(two.ratio_to(&one), 2.0);
+        let (one, two) = (Times(vec![2.0, 6.0]), Times(vec![4.0, 12.0]));
+        assert_eq!(two.ratio_to(&one), 2.0);
     }
 
     /// Behind the warming up, three calls of each, the entries run one behind the

@@ -3,15 +3,16 @@
 //!
 //!     cargo run --release -p measure --bin open_whole -- [--rounds N]
 //!
-//! Both functions and both tags take turns in each round. What they answer and
-//! leave in the output is compared first. The goals are looked at last.
+//! Both functions and both tags take turns in each round. A ratio is taken in each
+//! round, and the median of the rounds' ratios is shown. What the functions answer
+//! and leave in the output is compared first. The goals are looked at last.
 
 use std::hint::black_box;
 use std::process::ExitCode;
 
 use host::{Done, Packet};
 use measure::contenders::{Job, Operation, VARIANTS};
-use measure::rounds::{HEADERS, LENGTHS, ROUNDS, Times, in_turn, parse_rounds};
+use measure::rounds::{HEADERS, LENGTHS, Times, in_turn, parse_rounds};
 
 /// A function that opens.
 type Open = fn(Packet, &mut [u8]) -> Done;
@@ -29,13 +30,9 @@ const ENTRIES: [(Open, usize); 4] = [
 const TAGS: [(&str, u8, f64); 2] = [("right tag", 0, 2.1), ("wrong tag", 6, 1.1)];
 const GOAL_LENGTH: usize = 64;
 
-/// A number of the rounds' two.
-type Number = fn(&Times) -> f64;
-
-const NUMBERS: [(&str, Number); 2] = [
-    ("medians", |times| times.median),
-    ("fastest rounds", |times| times.fastest),
-];
+/// Rounds, where `--rounds` does not say: more than in `packets`, since each ratio
+/// is held against a goal.
+const ROUNDS: usize = 61;
 
 /// The times of the entries on one packet.
 struct Row {
@@ -48,8 +45,8 @@ struct Row {
 impl Row {
     /// The time of `schwaemm_open_whole` in that of `schwaemm_open`, with a tag
     /// of `TAGS`.
-    fn ratio(&self, tag: usize, number: Number) -> f64 {
-        number(&self.times[2 * tag + 1]) / number(&self.times[2 * tag])
+    fn ratio(&self, tag: usize) -> f64 {
+        self.times[2 * tag + 1].ratio_to(&self.times[2 * tag])
     }
 }
 
@@ -90,17 +87,17 @@ fn measure(jobs: &mut [Job; 2], rounds: usize) -> [Times; 4] {
     })
 }
 
-/// A table of nanoseconds a packet and of ratios, by `number`.
-fn table(rows: &[Row], number: Number) -> String {
+/// A table of nanoseconds a packet, by the median, and of ratios.
+fn table(rows: &[Row]) -> String {
     let names = TAGS.map(|(name, _, _)| {
         format!("`schwaemm_open`, {name} | `schwaemm_open_whole`, {name} | ratio")
     });
     let mut text = format!("| variant | header | message | {} |\n", names.join(" | "));
     text += &format!("|---:|---:|---:|{}\n", "---:|".repeat(6));
     for row in rows {
-        let times = row.times.map(|times| format!("{:.0}", number(&times)));
-        let [open, whole, open_wrong, whole_wrong] = times;
-        let ratios = [0, 1].map(|tag| format!("{:.2}", row.ratio(tag, number)));
+        let times = row.times.each_ref();
+        let [open, whole, open_wrong, whole_wrong] = times.map(|t| format!("{:.0}", t.median()));
+        let ratios = [0, 1].map(|tag| format!("{:.2}", row.ratio(tag)));
         let [right, wrong] = ratios;
         let numbers = [row.variant + 1, row.header, row.length].map(|n| n.to_string());
         let cells = [open, whole, right, open_wrong, whole_wrong, wrong];
@@ -111,18 +108,16 @@ fn table(rows: &[Row], number: Number) -> String {
 
 /// Each goal with the smallest and the largest ratio.
 fn goals(rows: &[Row]) -> String {
-    let mut text = "| goal | by | ratios | worst | |\n|---|---|---|---:|---|\n".to_string();
+    let mut text = "| goal | ratios | |\n|---|---|---|\n".to_string();
     for (tag, (name, _, goal)) in TAGS.into_iter().enumerate() {
-        for (by, number) in NUMBERS {
-            let counted = rows.iter().filter(|row| row.length >= GOAL_LENGTH);
-            let ratios: Vec<f64> = counted.map(|row| row.ratio(tag, number)).collect();
-            let least = ratios.iter().copied().fold(f64::INFINITY, f64::min);
-            let most = ratios.iter().copied().fold(0.0, f64::max);
-            let verdict = if most <= goal { "reached" } else { "missed" };
-            text += &format!(
-                "| {name}, from {GOAL_LENGTH} bytes on, at most {goal:.2} | {by} | {least:.2} to {most:.2} | {most:.3} | {verdict} |\n"
-            );
-        }
+        let counted = rows.iter().filter(|row| row.length >= GOAL_LENGTH);
+        let ratios: Vec<f64> = counted.map(|row| row.ratio(tag)).collect();
+        let least = ratios.iter().copied().fold(f64::INFINITY, f64::min);
+        let most = ratios.iter().copied().fold(0.0, f64::max);
+        let verdict = if most <= goal { "reached" } else { "missed" };
+        text += &format!(
+            "| {name}, from {GOAL_LENGTH} bytes on, at most {goal:.2} | {least:.2} to {most:.2} | {verdict} |\n"
+        );
     }
     text
 }
@@ -152,10 +147,9 @@ fn benchmark(arguments: &[String]) -> Result<(), String> {
     if cfg!(debug_assertions) {
         println!("A debug build: these numbers say nothing about speed.\n");
     }
-    println!("Nanoseconds a packet, {rounds} rounds. What is opened is equal.");
-    for (by, number) in NUMBERS {
-        print!("\nBy {by}:\n\n{}", table(&rows, number));
-    }
+    println!("Nanoseconds a packet, median of {rounds} rounds, and the median of their ratios.");
+    println!("What is opened is equal.\n");
+    print!("{}", table(&rows));
     println!("\nThe goals: the time of `schwaemm_open_whole` in that of `schwaemm_open`.\n");
     print!("{}", goals(&rows));
     Ok(())

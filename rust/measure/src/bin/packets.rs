@@ -29,8 +29,8 @@ fn measure(job: &mut Job, length: usize, rounds: usize) -> Vec<Row> {
         header: job.header.len(),
         length,
         contender,
-        median: times.median,
-        fastest: times.fastest,
+        median: times.median(),
+        fastest: times.fastest(),
     })
     .collect()
 }
