@@ -19,7 +19,7 @@
 //! | to | take |
 //! |---|---|
 //! | open a packet that is there as a whole | [`open_whole_into`]; to get a vector: [`open_whole`] |
-//! | the same in about half the time, where nobody reads the output before the answer | [`open_into`]; to get a vector: [`open`] |
+//! | the same in about half the time of a long packet, where nobody reads the output before the answer | [`open_into`]; to get a vector: [`open`] |
 //! | seal a message that is there as a whole | [`seal`]; into a slice: [`seal_into`] |
 //! | seal or open a message that comes in pieces, or learn its tag and steps | [`Message`] |
 //! | make any calls of an engine: resets, repeated starts, length queries | [`Calls`] |

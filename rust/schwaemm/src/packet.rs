@@ -4,6 +4,23 @@ use host::{Done, Packet, wipe};
 
 use crate::{Error, Variant, stack};
 
+/// What a one-shot call reads; `message` is the packet for an opening.
+fn lend<'a>(
+    variant: Variant,
+    key: &'a [u8],
+    nonce: &'a [u8],
+    header: &'a [u8],
+    message: &'a [u8],
+) -> Packet<'a> {
+    Packet {
+        variant: variant.number(),
+        key,
+        nonce,
+        header,
+        message,
+    }
+}
+
 /// What a one-shot call returned; a refusal's values are passed on as they came.
 fn result(done: Done) -> Result<usize, Error> {
     match done.code {
@@ -47,14 +64,7 @@ pub fn seal_into(
     message: &[u8],
     output: &mut [u8],
 ) -> Result<usize, Error> {
-    let packet = Packet {
-        variant: variant.number(),
-        key,
-        nonce,
-        header,
-        message,
-    };
-    let done = host::seal(packet, output);
+    let done = host::seal(lend(variant, key, nonce, header, message), output);
     stack::wipe();
     let needed = message.len().saturating_add(variant.tag_bytes());
     result_of_calls(done, needed, output.len())
@@ -133,14 +143,7 @@ pub fn open_whole_into(
     packet: &[u8],
     output: &mut [u8],
 ) -> Result<usize, Error> {
-    let packet = Packet {
-        variant: variant.number(),
-        key,
-        nonce,
-        header,
-        message: packet,
-    };
-    let done = host::open_whole(packet, output);
+    let done = host::open_whole(lend(variant, key, nonce, header, packet), output);
     stack::wipe();
     result(done)
 }
@@ -182,7 +185,8 @@ pub fn open_whole(
 ///
 /// Bytes of the message are in `output` before the tag is verified. So it is for
 /// an output that nobody reads before the answer is there, where time counts: it
-/// takes about half as long as [`open_whole_into`].
+/// takes about half as long as [`open_whole_into`] for a long packet whose tag is
+/// right, and as long for one whose tag is wrong.
 ///
 /// # Errors
 ///
@@ -214,14 +218,7 @@ pub fn open_into(
 ) -> Result<usize, Error> {
     let needed = packet.len().saturating_sub(variant.tag_bytes());
     let room = output.len();
-    let packet = Packet {
-        variant: variant.number(),
-        key,
-        nonce,
-        header,
-        message: packet,
-    };
-    let done = host::open(packet, output);
+    let done = host::open(lend(variant, key, nonce, header, packet), output);
     stack::wipe();
     if matches!(done.code, 4 | 6) {
         wipe(&mut output[..needed.min(room)]);
@@ -230,8 +227,9 @@ pub fn open_into(
 }
 
 /// Opens a packet: the message, where the tag is the right one. It answers as
-/// [`open_whole`] does, in about half the time; bytes of a message whose tag is
-/// wrong are in the vector until they are overwritten.
+/// [`open_whole`] does, in about half the time of a long packet whose tag is right;
+/// bytes of a message whose tag is wrong are in the vector until they are
+/// overwritten.
 ///
 /// # Errors
 ///
