@@ -1,5 +1,7 @@
 // Call lists as text (document 02, 2026-01): reads a list from standard input and writes the sheet of
 // its calls, or `(no 12 3)` where line 3 is wrong. What is decided, `call_text` decides.
+#![tactic(auto)]
+
 ghost use Rattle.std.specs.Prelude.{◌≡◌, take};
 
 use call_text::run;

@@ -1,5 +1,7 @@
 // One call of an engine, given by its kind, a number, three runs of bytes and an output: which of the
 // engine's calls a kind means is decided here and nowhere else.
+#![tactic(auto)]
+
 ghost use Rattle.std.specs.Prelude.{◌≡◌, cond};
 ghost use Rattle.tc_aead_cipher.specs.Variant.{params_of};
 ghost use Rattle.tc_aead_cipher.specs.Call.{call_of};

@@ -1,5 +1,7 @@
 // The host boundary: call lists. The export has the C calling convention and takes numbers and byte
 // slices (docs/HOST.md); no engine crosses. Whole packets at once are `crates/packet`.
+#![tactic(auto)]
+
 ghost use Rattle.std.specs.Prelude.{◌≡◌, ◌-◌, length};
 ghost use Rattle.tc_sparkle_aead.specs.Message.{written};
 ghost use Rattle.host.specs.CallList.{run_list};

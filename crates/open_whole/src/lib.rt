@@ -1,6 +1,8 @@
 // The host boundary: a packet that is opened whole or not (document 02, 2026-03). The export has the C
 // calling convention and takes numbers and byte slices (docs/HOST.md); no engine crosses. It has an archive
 // of its own: in `crates/packet` the work on a packet has one caller, which keeps it fast.
+#![tactic(auto)]
+
 ghost use Rattle.std.specs.Prelude.{◌≡◌};
 ghost use Rattle.open_whole.specs.OpenWhole.{open_whole_of};
 

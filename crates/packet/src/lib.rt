@@ -1,5 +1,7 @@
 // The host boundary: whole packets at once. The exports have the C calling convention and take
 // numbers and byte slices (docs/HOST.md); no engine crosses. Call lists are `crates/host`.
+#![tactic(auto)]
+
 ghost use Rattle.std.specs.Prelude.{◌≡◌};
 ghost use Rattle.tc_aead_cipher.specs.declared.phase.Direction.{Direction};
 ghost use Rattle.packet.specs.Packet.{packet_of};

@@ -1,6 +1,8 @@
 // Replays call lists by the boundary's own function and compares all that it answers, byte for byte,
 // with what the Rust original did. The file lists is written by rust/replay; of an end in opening
 // Aad, where the Rust is known to differ, it has document 01's answer.
+#![tactic(auto)]
+
 ghost use Rattle.std.specs.Prelude.{◌≤◌};
 
 mod compare;

@@ -1,1 +1,2 @@
 // No code: the specification of Schwaemm (specs/) and its laws (proofs/).
+#![tactic(auto)]

@@ -1,1 +1,2 @@
 // No code: known answers of the specification of Schwaemm (proofs/).
+#![tactic(auto)]

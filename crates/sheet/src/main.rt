@@ -1,6 +1,8 @@
 // Document 01's sheet ("Worked by hand"): the calls given there on a new engine of variant 1, all
 // contents zero, and a line for each made from its answer. The calls go through the lent engine and
 // AeadParamsRef. The file stdout holds the printed block.
+#![tactic(auto)]
+
 mod lent;
 
 use entry_calls::aead_params_ref;

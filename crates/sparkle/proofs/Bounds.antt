@@ -59,13 +59,13 @@ word-xor_xs : {acc : ℕ} {w : List ℕ} → acc < 2 ^ 32 → Words w → xor_xs
 unfolding xor_xs
 word-xor_xs ha none = ha
 word-xor_xs ha (more hx none) = xor_word ha hx
-word-xor_xs ha (more hx (more hy h)) = word-xor_xs (xor_word ha hx) h
+word-xor_xs {acc = acc} ha (more {x = x} hx (more hy h)) = word-xor_xs {acc = bit_xor acc x} (xor_word ha hx) h
 
 word-xor_ys : {acc : ℕ} {w : List ℕ} → acc < 2 ^ 32 → Words w → xor_ys acc w < 2 ^ 32
 unfolding xor_ys
 word-xor_ys ha none = ha
 word-xor_ys ha (more hx none) = ha
-word-xor_ys ha (more hx (more hy h)) = word-xor_ys (xor_word ha hy) h
+word-xor_ys {acc = acc} ha (more hx (more {x = y} hy h)) = word-xor_ys {acc = bit_xor acc y} (xor_word ha hy) h
 
 words-xor_each : {a b : ℕ} {w : List ℕ} → a < 2 ^ 32 → b < 2 ^ 32 → Words w → Words (xor_each a b w)
 unfolding xor_each

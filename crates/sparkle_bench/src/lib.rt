@@ -1,5 +1,7 @@
 // The permutation by the C calling convention: two functions for the benchmark (rust/bench), and
 // `sparkle_run`, which starts at any step (docs/HOST.md). The words are lent and changed.
+#![tactic(auto)]
+
 ghost use Rattle.std.specs.Prelude.{◌≡◌, cond, ◌+◌, ◌≤◌, leb, length};
 ghost use Rattle.std.proofs.Math.Seq.{paste};
 ghost use Rattle.sparkle.specs.Sparkle.{sparkle_in, branches};

@@ -5,6 +5,8 @@
 //     while 0 < run.left {
 //         run = sparkle_parts::advance(run, 1);
 //     }
+#![tactic(auto)]
+
 ghost use Rattle.std.specs.Prelude.{◌≡◌};
 ghost use Rattle.sparkle_parts.specs.Parts.{Valid, advance};
 

@@ -4,6 +4,8 @@
 // count, and runs in parts, each part with the number of the next step and how many are left. The
 // file stdout is written by rust/vectors, over the Rust original. Two of the runs far from step 0 are
 // theorems too (proofs/Vectors.antt).
+#![tactic(auto)]
+
 ghost use Rattle.std.specs.Prelude.{◌<◌};
 
 use libc::STDOUT_FILENO;

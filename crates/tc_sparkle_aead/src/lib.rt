@@ -1,4 +1,6 @@
 // The Schwaemm engine of the buried probe (docs/01-scope.md): layer 2, over the permutation.
+#![tactic(auto)]
+
 pub mod aead_cipher;
 mod blocks;
 mod bytes;

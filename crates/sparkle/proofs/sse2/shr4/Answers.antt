@@ -1,0 +1,8 @@
+-- `shr4` shifts lane by lane: its array is the definition, computed.
+use Rattle.std.proofs.Common.{refl}
+use Rattle.sparkle.specs.Lanes.{lanes}
+use Rattle.sparkle.proofs.sse2.shr4.Goals as goal
+
+pub returns : goal.returns
+unfolding lanes
+returns c = refl

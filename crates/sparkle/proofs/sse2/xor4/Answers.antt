@@ -1,0 +1,8 @@
+-- `xor4` works lane by lane: its array is the definition, computed.
+use Rattle.std.proofs.Common.{refl}
+use Rattle.sparkle.specs.Lanes.{lanes2}
+use Rattle.sparkle.proofs.sse2.xor4.Goals as goal
+
+pub returns : goal.returns
+unfolding lanes2
+returns c = refl
