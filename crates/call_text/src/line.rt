@@ -15,7 +15,7 @@ use tc_aead_cipher::variant::SparkleVariant;
 
 // How far a line agrees with a shape: whether it has agreed so far, the place reached, and where the
 // last four fields begin. A new field is noted in d, and those before it move up to c, b and a.
-#[derive(Drop)]
+#[derive(Clone, Copy)]
 pub struct Fields {
     pub(crate) agree: bool,
     pub(crate) at: usize,
@@ -26,7 +26,7 @@ pub struct Fields {
 }
 
 // A call in its line: its kind and number, where its runs of bytes begin, and its output's length.
-#[derive(Drop)]
+#[derive(Clone, Copy)]
 pub struct Found {
     pub(crate) found: bool,
     pub(crate) kind: CallKind,
@@ -37,7 +37,7 @@ pub struct Found {
     pub(crate) room: usize,
 }
 
-#[derive(Drop)]
+#[derive(Clone, Copy)]
 pub struct FoundVariant {
     pub(crate) found: bool,
     pub(crate) variant: SparkleVariant,

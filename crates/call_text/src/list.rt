@@ -7,7 +7,7 @@ use super::line;
 use forms::bytes;
 use forms::bytes::ByteKind;
 
-#[derive(Drop)]
+#[derive(Clone, Copy)]
 pub enum Checked {
     Accepted,
     Refused(usize),

@@ -21,14 +21,14 @@ use tc_sparkle_aead::engine::SparkleEngine;
 use tc_sparkle_aead::{aead_cipher, engine};
 
 // Where a run stands: the engine, and the place in the file.
-#[derive(Drop)]
+#[derive(Clone, Copy)]
 pub struct Run {
     pub engine: SparkleEngine,
     pub at: usize,
 }
 
 // A text to print, and the run behind it.
-#[derive(Drop)]
+#[derive(Clone, Copy)]
 pub struct Shown {
     pub text: Text,
     pub run: Run,

@@ -17,7 +17,7 @@ use tc_sparkle_aead::engine::{Done, SparkleEngine, Started};
 use tc_sparkle_aead::{aead_cipher, engine};
 
 // What a call leaves: its answer as numbers, and the engine.
-#[derive(Drop)]
+#[derive(Clone, Copy)]
 pub struct Called {
     pub reply: Reply,
     pub engine: SparkleEngine,

@@ -8,7 +8,7 @@ use tc_aead_cipher::aead_init_error::AeadInitResult;
 use tc_aead_cipher::phase::Direction;
 use tc_sparkle_aead::engine::{SparkleEngine, Started};
 
-#[derive(Drop)]
+#[derive(Clone, Copy)]
 pub struct AeadParamsRef<'a> {
     key: &'a [u8],
     nonce: &'a [u8],

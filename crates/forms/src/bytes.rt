@@ -2,7 +2,7 @@
 ghost use Rattle.std.specs.Prelude.{◌≡◌, ◌&&◌, leb};
 ghost use Rattle.forms.specs.Bytes.{is_kind, front, run_at};
 
-#[derive(Drop)]
+#[derive(Clone, Copy)]
 pub enum ByteKind {
     Letter,
     Digit,

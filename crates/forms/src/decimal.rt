@@ -5,7 +5,7 @@ ghost use Rattle.forms.specs.Decimal.{decimal_of, with_digit};
 use super::bytes;
 use super::bytes::ByteKind;
 
-#[derive(Drop)]
+#[derive(Clone, Copy)]
 pub enum Number {
     Is(u64),
     Not,

@@ -10,7 +10,7 @@ use super::bytes::ByteKind;
 
 // Where reading ended: behind what was to be read, or at the first byte that cannot stand there,
 // which may be the one that is missing at the end.
-#[derive(Drop)]
+#[derive(Clone, Copy)]
 pub enum End {
     Behind(usize),
     Stopped(usize),

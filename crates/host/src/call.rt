@@ -13,7 +13,7 @@ use tc_sparkle_aead::engine::SparkleEngine;
 use tc_sparkle_aead::message::Mac;
 
 // The head of a call: its kind, its number, and the lengths of its three runs of bytes.
-#[derive(Drop)]
+#[derive(Clone, Copy)]
 pub struct Head {
     pub(crate) kind: u8,
     pub(crate) number: usize,
@@ -23,7 +23,7 @@ pub struct Head {
 }
 
 // What stands in front of the rest of a list.
-#[derive(Drop)]
+#[derive(Clone, Copy)]
 pub enum Read {
     Malformed,
     Call(Head),

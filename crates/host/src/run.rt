@@ -10,7 +10,7 @@ use tc_sparkle_aead::engine;
 use tc_sparkle_aead::engine::SparkleEngine;
 
 // Where a run stopped: its return code and the place in the list.
-#[derive(Drop)]
+#[derive(Clone, Copy)]
 pub struct Stop {
     pub code: u8,
     pub place: usize,

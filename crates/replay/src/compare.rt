@@ -6,7 +6,7 @@ ghost use Rattle.replay.specs.Answers.{answer_length};
 use super::{record, say};
 
 // How many answers there are, how many of them differ, and whether the last one is whole.
-#[derive(Drop)]
+#[derive(Clone, Copy)]
 pub struct Compared {
     pub(crate) calls: u64,
     pub(crate) differences: u64,

@@ -13,21 +13,21 @@ use host::run;
 use host::run::Stop;
 
 // How many lists, calls and differences there were so far.
-#[derive(Drop)]
+#[derive(Clone, Copy)]
 struct Counts {
     lists: u64,
     calls: u64,
     differences: u64,
 }
 
-#[derive(Drop)]
+#[derive(Clone, Copy)]
 enum Next {
     More,
     End,
     Malformed,
 }
 
-#[derive(Drop)]
+#[derive(Clone, Copy)]
 struct Stepped {
     next: Next,
     counts: Counts,

@@ -7,7 +7,7 @@ ghost use Rattle.schwaemm.specs.Bytes.{same};
 ghost use Rattle.host.specs.Bytes.{number_at};
 
 // A number of the file, and whether the file has it.
-#[derive(Drop)]
+#[derive(Clone, Copy)]
 pub struct FileNumber {
     pub(crate) read: bool,
     pub(crate) value: usize,

@@ -10,7 +10,7 @@ use tc_aead_cipher::reply::Reply;
 use tc_aead_cipher::variant::SparkleVariant;
 
 // A text: its bytes, zeros behind them, and its length.
-#[derive(Drop)]
+#[derive(Clone, Copy)]
 pub struct Text {
     pub bytes: [u8; 128],
     pub len: usize,

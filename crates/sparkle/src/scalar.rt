@@ -22,7 +22,7 @@ pub(crate) const RCON6: u32 = 0xcfbf_a1c8;
 pub(crate) const RCON7: u32 = 0xc2b3_293d;
 
 // How many words of the array are the state.
-#[derive(Drop)]
+#[derive(Clone, Copy)]
 pub enum StateWords {
     Words8,
     Words12,
@@ -30,7 +30,7 @@ pub enum StateWords {
 }
 
 // A branch of the state: the words x and y.
-#[derive(Drop)]
+#[derive(Clone, Copy)]
 pub struct Branch {
     pub x: u32,
     pub y: u32,

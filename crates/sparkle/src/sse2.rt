@@ -16,7 +16,7 @@ ghost use Rattle.sparkle.specs.Lanes.{lanes, lanes2, shuffled, lanes_x, lanes_y,
 use super::scalar;
 
 // The state: words 0, 2, 4, 6, then 1, 3, 5, 7, and so on.
-#[derive(Drop)]
+#[derive(Clone, Copy)]
 pub struct Groups {
     pub s0246: [u32; 4],
     pub s1357: [u32; 4],
@@ -91,7 +91,7 @@ const ROWS: [u32; 48] = [
 
 // Four branches on the way through a box: the x words, the y words, and words with the high bits of
 // the y words.
-#[derive(Drop)]
+#[derive(Clone, Copy)]
 pub struct Lanes {
     pub x: [u32; 4],
     pub y: [u32; 4],

@@ -14,7 +14,7 @@ use sparkle::scalar::StateWords;
 
 // A run of steps on its way: the size of the state, the array that begins with it, the number of the
 // next step and how many steps are left.
-#[derive(Drop)]
+#[derive(Clone, Copy)]
 pub struct PartialRun {
     pub size: StateWords,
     pub words: [u32; 16],

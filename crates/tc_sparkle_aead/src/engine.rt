@@ -13,7 +13,7 @@ use tc_aead_cipher::phase::Direction;
 use tc_aead_cipher::variant::SparkleVariant;
 
 // The last loaded key and nonce, and whether there are any (the Rust's `has_key_nonce`).
-#[derive(Drop)]
+#[derive(Clone, Copy)]
 pub struct Pair {
     pub(crate) loaded: bool,
     pub(crate) key: [u8; 32],
@@ -21,13 +21,13 @@ pub struct Pair {
 }
 
 // The permutation steps of the current message, and how many they were after init.
-#[derive(Drop)]
+#[derive(Clone, Copy)]
 pub struct Steps {
     pub(crate) current: u64,
     pub(crate) initial: u64,
 }
 
-#[derive(Drop)]
+#[derive(Clone, Copy)]
 pub struct SparkleEngine {
     pub(crate) variant: SparkleVariant,
     pub(crate) current: Point,
@@ -39,14 +39,14 @@ pub struct SparkleEngine {
 }
 
 // What a call of a message answers, and the engine afterwards.
-#[derive(Drop)]
+#[derive(Clone, Copy)]
 pub struct Done {
     pub answer: AeadResult,
     pub engine: SparkleEngine,
 }
 
 // What a start answers, and the engine afterwards.
-#[derive(Drop)]
+#[derive(Clone, Copy)]
 pub struct Started {
     pub answer: AeadInitResult,
     pub engine: SparkleEngine,

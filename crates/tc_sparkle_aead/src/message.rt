@@ -14,7 +14,7 @@ use tc_aead_cipher::variant::SparkleVariant;
 // A point of a message: the phase, the state's words, the bytes that are held and how many they are.
 // Words and bytes beyond the state's and the held ones are 0. `held` stands before the arrays:
 // call lists take less code and fewer moves so (docs/PERFORMANCE.md).
-#[derive(Drop)]
+#[derive(Clone, Copy)]
 pub struct Point {
     pub(crate) phase: Phase,
     pub(crate) held: usize,
@@ -23,21 +23,21 @@ pub struct Point {
 }
 
 // A tag and whether it can be read (the Rust's `Option<[u8; 32]>`).
-#[derive(Drop)]
+#[derive(Clone, Copy)]
 pub struct Mac {
     pub readable: bool,
     pub bytes: [u8; 32],
 }
 
 // Where a part of a call leads: the point, and the steps that it runs.
-#[derive(Drop)]
+#[derive(Clone, Copy)]
 pub struct Progress {
     pub(crate) point: Point,
     pub(crate) steps: u64,
 }
 
 // What the end of a message gives: the tag, and the steps that it runs.
-#[derive(Drop)]
+#[derive(Clone, Copy)]
 pub struct End {
     pub(crate) mac: Mac,
     pub(crate) steps: u64,
