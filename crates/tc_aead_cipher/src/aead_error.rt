@@ -1,7 +1,7 @@
 // The refusals of a message's calls (the Rust's aead_error.rs, without the names that this engine
 // never gives), and the answer of such a call. Document 01's numbers are `refusal`'s.
 
-#[derive(Drop)]
+#[derive(Clone, Copy)]
 pub enum AeadError {
     NotInitialized,
     AadAfterData,
@@ -13,7 +13,7 @@ pub enum AeadError {
 }
 
 // The Rust's `Result<usize, AeadError>`; of a header call, which counts nothing, the count is 0.
-#[derive(Drop)]
+#[derive(Clone, Copy)]
 pub enum AeadResult {
     Ok(usize),
     Err(AeadError),

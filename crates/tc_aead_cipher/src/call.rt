@@ -1,7 +1,7 @@
 // The kinds of an engine's calls: which call, without its arguments. A start's has its direction.
 use super::phase::Direction;
 
-#[derive(Drop)]
+#[derive(Clone, Copy)]
 pub enum CallKind {
     Init(Direction),
     Aad,

@@ -10,7 +10,7 @@ use super::aead_init_error::{AeadInitError, AeadInitResult};
 
 // Number 0 and a count, or document 01's number of a refusal and its values. `values` says how many
 // values there are, 1 for a count; a value that there is not is 0.
-#[derive(Drop)]
+#[derive(Clone, Copy)]
 pub struct Reply {
     pub number: u8,
     pub values: u8,

@@ -2,7 +2,7 @@
 ghost use Rattle.std.specs.Prelude.{◌≡◌};
 ghost use Rattle.tc_aead_cipher.specs.Variant.{params_of, number, is_variant, variant_of};
 
-#[derive(Drop)]
+#[derive(Clone, Copy)]
 pub enum SparkleVariant {
     Schwaemm128_128,
     Schwaemm256_128,
