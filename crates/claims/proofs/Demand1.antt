@@ -237,8 +237,8 @@ module _ (e : SparkleEngine) where
   refused_comes_back c r (tag_differs q whole enough differs) =
       let t : Active Decrypt e.current.phase = rw q in-data in
       rw (open_taken _ (small e.variant) _ _ _ t whole enough, opening-end e _ false q (not_same _ _ differs))
-  refused_comes_back c r (data-sum t over) = rw (data_sum_law _ _ _ _ _ _ t over)
-  refused_comes_back c r (update_sum over) = rw (update_over _ Encrypt _ _ _ over)
+  refused_comes_back c r (data-sum t over) = rw (data_sum_law (params_of e.variant) _ _ _ _ _ t over)
+  refused_comes_back c r (update_sum over) = rw (update_over (params_of e.variant) Encrypt _ _ _ over)
   refused_comes_back c r (output-sum f over) = rw (output-over _ _ _ _ _ f over)
   refused_comes_back c r (header_not_initialized some q) = rw (header_law, q)
   refused_comes_back c r (data_not_initialized q) = unfold data_check in rw q
@@ -299,7 +299,7 @@ module _ (e : SparkleEngine) (d : Direction) (n : ℕ) (f : HasDirection d e.cur
   update_count : engine_held e + n < 2 ^ 64
       → (step e (Call.Update n)).outcome ≡ ok (data_writes d (params_of e.variant) (engine_held e + n))
   unfolding step update_output_len
-  update_count fits = rw (update_fits _ _ _ _ _ f fits)
+  update_count fits = rw (update_fits (params_of e.variant) _ _ _ _ f fits)
 
   output-count : output_sum d (params_of e.variant) (engine_held e + n) < 2 ^ 64
       → (step e (Call.Output n)).outcome ≡ ok (end_writes d (params_of e.variant) (engine_held e + n))
@@ -392,7 +392,7 @@ module _ (e : SparkleEngine) where
       by-tag t whole enough = go (tag_right e) refl
         where
           q : e.current.phase ≡ Data Decrypt
-          q = whole_in_data _ _ _ (sizes e.variant).key_positive t whole
+          q = whole_in_data (params_of e.variant) _ _ (sizes e.variant).key_positive t whole
 
           go : (b : Bool) → tag_right e ≡ b → Answered e (Call.Final out) (step e (Call.Final out)).outcome
           go true equal = answered-count (open_count e out q whole enough (equal_of_same _ _ equal))
