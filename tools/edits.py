@@ -19,8 +19,9 @@ ROOT = os.path.join(os.path.dirname(os.path.abspath(__file__)), "..")
 # ---- a prover's log
 
 ENTRY = re.compile(r"(?:\S*/)?proofs/(\S+?)\.antt:\d+:\d+: (error|note): ")
-FOLLOWS = re.compile(r"was not admitted \(|has no `Need-|has no field")
-UNPROVED = re.compile(r"^fn \w+::(\S+): no proof: .*`search` does not close")
+FOLLOWS = re.compile(r"was not admitted \(|has no `[^`]*` that can be named|has no field")
+UNPROVED = re.compile(r"^fn \w+::(\S+): no proof: .*`search` did not prove")
+ANSWERS = re.compile(r"/(?:Answers|Invariants|Proof)$")
 
 
 def places(log):
@@ -31,10 +32,12 @@ def places(log):
         entry, unproved = ENTRY.match(line), UNPROVED.match(line)
         own = None
         if entry and entry.group(2) == "error":
-            law, _, text = line[entry.end() :].removeprefix("`").partition("`")
+            if not line.startswith("`", entry.end()):
+                continue  # "2 declarations that depend on `x` were not checked"
+            law, _, text = line[entry.end() + 1 :].partition("`")
             more = itertools.takewhile(lambda next: next.startswith(" "), lines[number + 1 :])
             if not FOLLOWS.search(" ".join([text, *more])):
-                file = entry.group(1).removesuffix("/Proof")
+                file = ANSWERS.sub("", entry.group(1))
                 own = file if entry.group(1) != file else f"{file}:{law}"
         elif unproved:
             own = unproved.group(1).replace("::", "/")
@@ -48,24 +51,27 @@ def places(log):
 WORD = r"[^\W\d][\w'-]*"
 FUNCTION = re.compile(r"( *)(?:pub(?:\(crate\))? )?(?:extern \"C\" )?fn (\w+)")
 MARKS = r"(?:(?:abbrev|unfoldable|opaque|pub) )*"
-NAME = r"(?:«[^»]+»|" + WORD + r"|_[^\s(){}]+_)"
+NAME = r"(?:«[^»]+»|" + WORD + r"|◌[^\s(){}]+◌)"
 DECLARED = re.compile(r" *" + MARKS + r"(?:(?:data|record) (" + NAME + r")(?: .*)?|(" + NAME + r"(?: " + NAME + r")*)) :(?: |$)")
 IMPORT = re.compile(r" *(?:pub )?(?:ghost )?(?:use|mod) ")
-OTHERS = re.compile(r"(?m)^(?:ghost )?use Rattle·\w+\.[\w.]+\.\{([^}]*)\}")
+OTHERS = re.compile(r"(?m)^(?:ghost )?use Rattle\.(\w+)\.[\w.]+\.\{([^}]*)\}")
 MARKED = re.compile(r" *(?:pub )?(?:abbrev|unfoldable|opaque|data|record) ")
 
 
-def words(text):
-    """The names of a text, and its signs, without comments and without fields, as in `e .phase`."""
+def words(text, fields=False):
+    """The names of a text, and its signs, without comments and, unless they are asked for, without fields, as in
+    `e.phase` and `(f x).phase`."""
     text = re.sub(r"(?m)--.*$|//.*$", "", text)
-    text = re.sub(r"(?<=[\s(])\.[\w«»'-]+", " ", text)
+    if not fields:
+        text = re.sub(r"(?:(?<![\w.'-])([a-z][\w'-]*)|(\)))(?:\.[\w«»'-]+)+", r"\1\2", text)
     return set(re.findall(r"(?<![\w'-])" + WORD, text)) | set(re.findall(r"[^\s\w(){}\[\],;.:«»'\"]+", text))
 
 
-def of_others(text):
+def of_others(text, own):
     """The names that a file of code takes from another crate's specifications, by their own names: in its contracts
     they are no definition of this crate, whatever is called so here."""
-    return {name.strip() for names in OTHERS.findall(text) for name in names.split(",") if " as " not in name}
+    others = [names for crate, names in OTHERS.findall(text) if crate not in (own, "std")]
+    return {name.strip() for names in others for name in names.split(",") if " as " not in name}
 
 
 def indent(line):
@@ -85,7 +91,7 @@ class Crate:
                     with open(path, encoding="utf-8") as file:
                         self.files[path.split("/", 2)[2]] = file.read()
         for path, text in self.files.items():
-            (self.read_code if path.endswith(".rt") else self.read_text)(path, text.splitlines(), of_others(text))
+            (self.read_code if path.endswith(".rt") else self.read_text)(path, text.splitlines(), of_others(text, name))
             for old, new in re.findall(r"(" + WORD + r") as (" + WORD + r")", text):
                 self.renamed.setdefault(new, set()).add(old)
 
@@ -106,7 +112,7 @@ class Crate:
             if place is None:
                 self.owners[path, number] = [] if IMPORT.match(line) else [("file", path)]
                 continue
-            contract = depth > 0 or re.match(r" *(requires|ensures) \{", line)
+            contract = depth > 0 or re.match(r" *(requires|ensures)(?: \w+)? \{", line)
             depth += (line.count("{") - line.count("}")) if contract else 0
             part = "contract" if contract else "body"
             self.functions[place][part] += line + "\n"
@@ -125,7 +131,7 @@ class Crate:
             opens = declared or line.lstrip().startswith("module ")
             around = [one for one in around if one[0] < depth or one[0] == depth and not opens]
             if declared:
-                names = [name.strip("«»_") for name in (declared.group(1) or declared.group(2)).split()]
+                names = [name.strip("«»◌") for name in (declared.group(1) or declared.group(2)).split()]
                 around.append((depth, names, path.startswith("specs/") or bool(MARKED.match(line))))
             self.owners[path, number] = [("definition", name) for _, names, _ in around for name in names]
             for _, names, definition in around:
@@ -167,7 +173,7 @@ class Crate:
 
     def called(self, place):
         """The functions that one calls, by the last part of their names."""
-        names = words(self.functions[place]["body"])
+        names = words(self.functions[place]["body"], fields=True)
         return {other for other in self.functions if other != place and other.split("/")[-1] in names}
 
     def speaks_of(self, place):
@@ -179,7 +185,7 @@ class Crate:
         if place not in self.functions:
             return None
         called, own = self.called(place), self.functions[place]
-        names = words(own["body"]).union(*(self.cited(one) for one in {place} | called))
+        names = words(own["body"], fields=True).union(*(self.cited(one) for one in {place} | called))
         found = {("body", place), ("contract", place), *(("contract", other) for other in called)}
         return found | self.leads_to(names) | {("file", path) for path in self.files if path.endswith(".rt")}
 
@@ -260,11 +266,31 @@ def named_twice():
     return [(name, paths) for name, paths in found.items() if len(paths) > 1]
 
 
+def listed():
+    """The crates of crates.txt, each with the crates that its line names."""
+    found = {}
+    with open("crates.txt", encoding="utf-8") as file:
+        for line in file:
+            if ":" in line and not line.startswith("#"):
+                head, _, deps = line.partition(":")
+                found[head.split()[0]] = deps.split()
+    return found
+
+
+def below(crate):
+    """A crate and those of the repository that it stands on."""
+    of, found, todo = listed(), [], [crate]
+    while todo:
+        name = todo.pop()
+        if name in of and name not in found:
+            found.append(name)
+            todo += of[name]
+    return found
+
+
 def crates():
     """The crates that have edits, in the order of crates.txt."""
-    with open("crates.txt", encoding="utf-8") as file:
-        names = [line.split(":")[0].strip() for line in file if ":" in line and not line.startswith("#")]
-    return [name for name in names if glob.glob(f"crates/{name}/edits/*.edit")]
+    return [name for name in listed() if glob.glob(f"crates/{name}/edits/*.edit")]
 
 
 def bundles(crate):
