@@ -98,7 +98,7 @@ abbrev pub header_phase : Direction → List ℕ → Phase
 header_phase d [] = Init d
 header_phase d (x ∷ header) = Aad d
 
--- Document 01's d - r. The checks count it in Data alone (heldData).
+-- Document 01's d - r. The checks count it in Data alone (held_data).
 abbrev pub reader_held : Params → Reader → ℕ
 reader_held p r =
     length r.body - ready p.rate (keep p r.phase) (length r.body) * p.rate
