@@ -105,19 +105,19 @@ pub fn variant(e: &SparkleEngine) -> SparkleVariant
 }
 
 pub fn key_bytes(e: &SparkleEngine) -> usize
-    ensures { result ≡ (params_of e.now.variant).key }
+    ensures key { result ≡ (params_of e.now.variant).key }
 {
     engine::key_bytes(*e)
 }
 
 pub fn nonce_bytes(e: &SparkleEngine) -> usize
-    ensures { result ≡ (params_of e.now.variant).rate }
+    ensures nonce { result ≡ (params_of e.now.variant).rate }
 {
     engine::nonce_bytes(*e)
 }
 
 pub fn tag_bytes(e: &SparkleEngine) -> usize
-    ensures { result ≡ (params_of e.now.variant).key }
+    ensures tag { result ≡ (params_of e.now.variant).key }
 {
     engine::tag_bytes(*e)
 }
