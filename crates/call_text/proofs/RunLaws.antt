@@ -148,21 +148,21 @@ next_further file r h = go (ltb 65536 (length file)) refl (found_in (line_at fil
     go false e true f = rw (e, f) (end_further file r.at h)
     go false e false f = rw (e, f) h
 
-loop_from : (k : ℕ) (file : List ℕ) (r : Run) (s : List ℕ) → length file ≤ r.at + k → Writes file r s
+loop_from : (file : List ℕ) (k : ℕ) (r : Run) (s : List ℕ) → length file ≤ r.at + k → Writes file r s
     → printed_from k file r ≡ s
-loop_from k file _ _ h (Writes.done r e) = run_end k file r e
-loop_from zero file _ _ h (Writes.turn r s l w) = absurd (omega arith)
-loop_from (suc k) file _ _ h (Writes.turn r s l w) =
+loop_from file k _ _ h (Writes.done r e) = run_end k file r e
+loop_from file zero _ _ h (Writes.turn r s l w) = absurd (omega arith)
+loop_from file (suc k) _ _ h (Writes.turn r s l w) =
     run_step k file r l
     ∙ ap (λ (t : List ℕ). bytes_of (next_of file r).text ++ t)
-    (loop_from k file (next_of file r).run s (omega (arith, next_further file r l)) w)
+    (loop_from file k (next_of file r).run s (omega (arith, next_further file r l)) w)
 
 -- What is printed is the text that the run begins with, and what the loop writes from there.
 pub loop_printed : (file s : List ℕ) → Writes file (begin_of file).run s
     → printed file ≡ bytes_of (begin_of file).text ++ s
 unfolding printed
 loop_printed file s w =
-    ap (λ (t : List ℕ). bytes_of (begin_of file).text ++ t) (loop_from (length file) file (begin_of file).run s (omega arith) w)
+    ap (λ (t : List ℕ). bytes_of (begin_of file).text ++ t) (loop_from file (length file) (begin_of file).run s (omega arith) w)
 
 -- "Before any call runs it refuses": of a refused file no step is made.
 pub nothing-runs : (file : List ℕ) (k : ℕ) → read_file file ≡ refused k → Writes file (begin_of file).run []
