@@ -1,5 +1,5 @@
 // Names an archive of the port to the linker. The build scripts of `host` and
-// `bench` share it: `rt staticlib NAME` writes the archive to the repository's
+// `bench` share it: `tools/archives NAME` writes the archive to the repository's
 // target/staticlib, and an environment variable may name another folder by its
 // absolute path.
 
@@ -16,7 +16,7 @@ pub fn link(name: &str, variable: &str, repository: &Path) -> Result<(), String>
     println!("cargo:rerun-if-changed={}", archive.display());
     if !archive.is_file() {
         return Err(format!(
-            "the archive {} is not there; `rt staticlib {name}` writes it, and {variable} names another folder",
+            "the archive {} is not there; `tools/archives {name}` writes it, and {variable} names another folder",
             archive.display()
         ));
     }

@@ -1,5 +1,5 @@
-// The host boundary: call lists. The export has the C calling convention and takes numbers and byte
-// slices (docs/HOST.md); no engine crosses. Whole packets at once are `crates/packet`.
+// The host boundary: call lists. The function takes numbers and byte slices (docs/HOST.md); no engine
+// crosses. `crates/host_c` exports it by the C calling convention. Whole packets at once are `crates/packet`.
 #![tactic(auto)]
 
 ghost use Rattle.std.specs.Prelude.{◌≡◌, ◌-◌, length};
@@ -11,8 +11,7 @@ mod call;
 pub mod run;
 
 // Runs a call list from one slice and writes the answers to another.
-#[unsafe(no_mangle)]
-pub extern "C" fn schwaemm_run(list: &[u8], answers: &mut [u8], place: &mut usize) -> u8
+pub fn schwaemm_run(list: &[u8], answers: &mut [u8], place: &mut usize) -> u8
     ensures value { result ≡ (run_list list.now (length answers.old)).code }
     ensures place_after { place.new ≡ length list.now - (run_list list.now (length answers.old)).left }
     ensures answers_after { answers.new ≡ written (run_list list.now (length answers.old)).answers answers.old }

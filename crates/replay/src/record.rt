@@ -2,9 +2,12 @@
 // answers, and the answers that the list has to have, both byte for byte as docs/HOST.md says. Behind
 // the last list stand a length of 0, the number of lists and the number of calls, and nothing more.
 // Every number has eight bytes, the lowest first.
-ghost use Rattle.std.specs.Prelude.{◌≡◌, ◌+◌, ◌*◌, ◌^◌, length, take, drop, slice_index};
+ghost use Rattle.std.specs.Prelude.{◌≡◌, ◌+◌, ◌*◌, ◌^◌, ◌≤◌, IfOk, length, take, drop, slice_index};
 ghost use Rattle.schwaemm.specs.Bytes.{same};
 ghost use Rattle.host.specs.Bytes.{number_at};
+
+use std::io;
+use std::io::Read;
 
 // A number of the file, and whether the file has it.
 #[derive(Clone, Copy)]
@@ -88,29 +91,44 @@ pub(crate) fn same(a: &[u8], b: &[u8]) -> bool
     true
 }
 
+// Reads until the buffer is full or the file ends, and answers how many bytes it read.
+fn read_full<R: Read>(file: &mut R, buf: &mut [u8]) -> io::Result<usize>
+    ensures { IfOk result (λ n. n ≤ length buf.new) }
+{
+    let mut done = 0;
+    while done < buf.len() {
+        let n = file.read(&mut buf[done..])?;
+        if n == 0 {
+            break;
+        }
+        done += n;
+    }
+    Ok(done)
+}
+
 // Reads the next n bytes; false where the buffer has no room for them or the file has too few.
-pub(crate) fn read(fd: i32, buf: &mut [u8], n: usize) -> bool {
+pub(crate) fn read<R: Read>(file: &mut R, buf: &mut [u8], n: usize) -> io::Result<bool> {
     if n <= buf.len() {
-        let got = io::read_full(fd, &mut buf[0..n]);
-        got == n
+        let got = read_full(file, &mut buf[0..n])?;
+        Ok(got == n)
     } else {
-        false
+        Ok(false)
     }
 }
 
 // Reads the next number.
-pub(crate) fn read_number(fd: i32) -> FileNumber {
+pub(crate) fn read_number<R: Read>(file: &mut R) -> io::Result<FileNumber> {
     let mut bytes = [0u8; 8];
-    let read = read(fd, &mut bytes, 8);
-    FileNumber {
+    let read = read(file, &mut bytes, 8)?;
+    Ok(FileNumber {
         read,
         value: number(&bytes),
-    }
+    })
 }
 
 // Whether nothing more is in the file.
-pub(crate) fn at_end(fd: i32) -> bool {
+pub(crate) fn at_end<R: Read>(file: &mut R) -> io::Result<bool> {
     let mut more = [0u8; 1];
-    let got = io::read_full(fd, &mut more);
-    got == 0
+    let got = read_full(file, &mut more)?;
+    Ok(got == 0)
 }

@@ -1,12 +1,12 @@
 // What the program writes.
-use libc::STDOUT_FILENO;
+use std::io;
 
-pub(crate) fn text(text: &[u8]) {
-    io::write_all(STDOUT_FILENO, text);
+pub(crate) fn text(rt: &impl Print, text: &[u8]) -> io::Result<()> {
+    rt.write_all(text)
 }
 
 // A text and a number behind it.
-pub(crate) fn number(text: &[u8], n: u64) {
-    io::write_all(STDOUT_FILENO, text);
-    io::print_decimal(STDOUT_FILENO, n);
+pub(crate) fn number(rt: &impl Print, text: &[u8], n: u64) -> io::Result<()> {
+    rt.write_all(text)?;
+    print!(rt; "{n}")
 }

@@ -6,9 +6,9 @@
 mod lent;
 
 use entry_calls::aead_params_ref;
-use libc::STDOUT_FILENO;
 use sheet_text::text;
 use sheet_text::text::Text;
+use std::io;
 use tc_aead_cipher::call::CallKind;
 use tc_aead_cipher::phase::Direction;
 use tc_aead_cipher::reply;
@@ -22,63 +22,70 @@ fn first(s: &[u8], n: usize) -> &[u8] {
     if n <= s.len() { &s[0..n] } else { s }
 }
 
-fn show(t: Text) {
+fn show(rt: &impl Print, t: Text) -> io::Result<()> {
     let bytes = t.bytes;
-    io::write_all(STDOUT_FILENO, first(&bytes, t.len));
+    rt.write_all(first(&bytes, t.len))
 }
 
 // The line of a call, from its answer and the engine afterwards.
-fn show_line(kind: CallKind, answer: Reply, e: SparkleEngine) {
+fn show_line(rt: &impl Print, kind: CallKind, answer: Reply, e: SparkleEngine) -> io::Result<()> {
     let m = lent::mac(e);
-    show(text::line(kind, answer, lent::steps(e), m.readable));
+    show(rt, text::line(kind, answer, lent::steps(e), m.readable))
 }
 
-fn shown(kind: CallKind, d: Done) -> SparkleEngine {
+fn shown(rt: &impl Print, kind: CallKind, d: Done) -> io::Result<SparkleEngine> {
     let r = d.answer;
     let e = d.engine;
-    show_line(kind, reply::reply_of(r), e);
-    e
+    show_line(rt, kind, reply::reply_of(r), e)?;
+    Ok(e)
 }
 
 // A sealing start without initial header.
-fn start(e: SparkleEngine) -> SparkleEngine {
+fn start(rt: &impl Print, e: SparkleEngine) -> io::Result<SparkleEngine> {
     let zeros = [0u8; 16];
     let s = aead_params_ref::init_owned(e, Direction::Encrypt, &zeros, &zeros, 16, b"");
     let r = s.answer;
     let next = s.engine;
     show_line(
+        rt,
         CallKind::Init(Direction::Encrypt),
         reply::start_reply_of(r),
         next,
-    );
-    next
+    )?;
+    Ok(next)
 }
 
-fn header(e: SparkleEngine, input: &[u8]) -> SparkleEngine {
-    shown(CallKind::Aad, lent::process_aad_bytes(e, input))
+fn header(rt: &impl Print, e: SparkleEngine, input: &[u8]) -> io::Result<SparkleEngine> {
+    shown(rt, CallKind::Aad, lent::process_aad_bytes(e, input))
 }
 
-fn data(e: SparkleEngine, input: &[u8], output: &mut [u8]) -> SparkleEngine {
-    shown(CallKind::Data, lent::process_bytes(e, input, output))
+fn data(
+    rt: &impl Print,
+    e: SparkleEngine,
+    input: &[u8],
+    output: &mut [u8],
+) -> io::Result<SparkleEngine> {
+    shown(rt, CallKind::Data, lent::process_bytes(e, input, output))
 }
 
-fn end(e: SparkleEngine, output: &mut [u8]) -> SparkleEngine {
-    shown(CallKind::Final, lent::do_final(e, output))
+fn end(rt: &impl Print, e: SparkleEngine, output: &mut [u8]) -> io::Result<SparkleEngine> {
+    shown(rt, CallKind::Final, lent::do_final(e, output))
 }
 
-fn main() {
+fn main(rt: HostRuntime) -> io::Result<()> {
     let variant = SparkleVariant::Schwaemm128_128;
-    show(text::title(variant));
+    show(&rt, text::title(variant))?;
     let mut output = [0u8; 32];
     let mut short = [0u8; 16];
     let mut enough = [0u8; 17];
     let mut none = [0u8; 0];
-    let e = start(engine::new(variant));
-    let e = header(e, &[0u8; 20]);
-    let e = data(e, &[0u8; 33], &mut output);
-    let e = header(e, &[0u8; 1]);
-    let e = end(e, &mut short);
-    let e = end(e, &mut enough);
-    let e = data(e, b"", &mut none);
-    start(e);
+    let e = start(&rt, engine::new(variant))?;
+    let e = header(&rt, e, &[0u8; 20])?;
+    let e = data(&rt, e, &[0u8; 33], &mut output)?;
+    let e = header(&rt, e, &[0u8; 1])?;
+    let e = end(&rt, e, &mut short)?;
+    let e = end(&rt, e, &mut enough)?;
+    let e = data(&rt, e, b"", &mut none)?;
+    start(&rt, e)?;
+    Ok(())
 }

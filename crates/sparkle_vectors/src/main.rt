@@ -8,9 +8,9 @@
 
 ghost use Rattle.std.specs.Prelude.{◌<◌};
 
-use libc::STDOUT_FILENO;
 use sparkle::scalar::StateWords;
 use sparkle_parts::PartialRun;
+use std::io;
 
 // All zeros, the word's place, all ones, and multiples of 0x9e3779b9 modulo 2^32.
 const ZEROS: [u32; 16] = [0; 16];
@@ -38,89 +38,117 @@ const MULTIPLES: [u32; 16] = [
     0xe377_9b90,
 ];
 
-fn print_number(n: u64) {
-    io::write_all(STDOUT_FILENO, b" ");
-    io::print_decimal(STDOUT_FILENO, n);
+fn print_number(rt: &impl Print, n: u64) -> io::Result<()> {
+    print!(rt; " {n}")
 }
 
-fn print_words(w: [u32; 16]) {
+fn print_words(rt: &impl Print, w: [u32; 16]) -> io::Result<()> {
     for i in 0..16 {
-        io::write_all(STDOUT_FILENO, b" ");
-        io::print_hex(STDOUT_FILENO, w[i] as u64, 8);
+        print!(rt; " {:08x}", w[i])?;
     }
-    io::write_all(STDOUT_FILENO, b"\n");
+    println!(rt; "")
 }
 
-fn scalar(w: [u32; 16], size: StateWords, words: u64, steps: u32) {
-    io::write_all(STDOUT_FILENO, b"scalar");
-    print_number(words);
-    print_number(steps as u64);
-    print_words(sparkle::scalar::sparkle_scalar(w, size, 0, steps));
+fn scalar(
+    rt: &impl Print,
+    w: [u32; 16],
+    size: StateWords,
+    words: u64,
+    steps: u32,
+) -> io::Result<()> {
+    print!(rt; "scalar")?;
+    print_number(rt, words)?;
+    print_number(rt, steps as u64)?;
+    print_words(rt, sparkle::scalar::sparkle_scalar(w, size, 0, steps))
 }
 
-fn groups(w: [u32; 16], steps: u32) {
-    io::write_all(STDOUT_FILENO, b"groups");
-    print_number(16);
-    print_number(steps as u64);
-    print_words(sparkle::sse2::sparkle_opt16(w, steps));
+fn groups(rt: &impl Print, w: [u32; 16], steps: u32) -> io::Result<()> {
+    print!(rt; "groups")?;
+    print_number(rt, 16)?;
+    print_number(rt, steps as u64)?;
+    print_words(rt, sparkle::sse2::sparkle_opt16(w, steps))
 }
 
-fn one_size(w: [u32; 16], size: StateWords, words: u64) {
-    scalar(w, size, words, 0);
-    scalar(w, size, words, 1);
-    scalar(w, size, words, 2);
-    scalar(w, size, words, 7);
-    scalar(w, size, words, 8);
-    scalar(w, size, words, 10);
-    scalar(w, size, words, 11);
-    scalar(w, size, words, 12);
-    scalar(w, size, words, 17);
+fn one_size(rt: &impl Print, w: [u32; 16], size: StateWords, words: u64) -> io::Result<()> {
+    scalar(rt, w, size, words, 0)?;
+    scalar(rt, w, size, words, 1)?;
+    scalar(rt, w, size, words, 2)?;
+    scalar(rt, w, size, words, 7)?;
+    scalar(rt, w, size, words, 8)?;
+    scalar(rt, w, size, words, 10)?;
+    scalar(rt, w, size, words, 11)?;
+    scalar(rt, w, size, words, 12)?;
+    scalar(rt, w, size, words, 17)
 }
 
-fn both(w: [u32; 16], steps: u32) {
-    scalar(w, StateWords::Words16, 16, steps);
-    groups(w, steps);
+fn both(rt: &impl Print, w: [u32; 16], steps: u32) -> io::Result<()> {
+    scalar(rt, w, StateWords::Words16, 16, steps)?;
+    groups(rt, w, steps)
 }
 
-fn sixteen(w: [u32; 16]) {
-    both(w, 0);
-    both(w, 1);
-    both(w, 2);
-    both(w, 7);
-    both(w, 8);
-    both(w, 10);
-    both(w, 11);
-    both(w, 12);
-    both(w, 17);
+fn sixteen(rt: &impl Print, w: [u32; 16]) -> io::Result<()> {
+    both(rt, w, 0)?;
+    both(rt, w, 1)?;
+    both(rt, w, 2)?;
+    both(rt, w, 7)?;
+    both(rt, w, 8)?;
+    both(rt, w, 10)?;
+    both(rt, w, 11)?;
+    both(rt, w, 12)?;
+    both(rt, w, 17)
 }
 
-fn all(w: [u32; 16]) {
-    one_size(w, StateWords::Words8, 8);
-    one_size(w, StateWords::Words12, 12);
-    sixteen(w);
+fn all(rt: &impl Print, w: [u32; 16]) -> io::Result<()> {
+    one_size(rt, w, StateWords::Words8, 8)?;
+    one_size(rt, w, StateWords::Words12, 12)?;
+    sixteen(rt, w)
 }
 
 // `count` steps from the step `first` on.
-fn from(w: [u32; 16], size: StateWords, words: u64, first: u32, count: u32) {
-    io::write_all(STDOUT_FILENO, b"from");
-    print_number(words);
-    print_number(first as u64);
-    print_number(count as u64);
-    print_words(sparkle::scalar::sparkle_scalar(w, size, first, count));
+fn from(
+    rt: &impl Print,
+    w: [u32; 16],
+    size: StateWords,
+    words: u64,
+    first: u32,
+    count: u32,
+) -> io::Result<()> {
+    print!(rt; "from")?;
+    print_number(rt, words)?;
+    print_number(rt, first as u64)?;
+    print_number(rt, count as u64)?;
+    print_words(rt, sparkle::scalar::sparkle_scalar(w, size, first, count))
 }
 
 // A run of first + count steps from step 0, picked up at the step `first`.
-fn midway(w: [u32; 16], size: StateWords, words: u64, first: u32, count: u32) {
-    io::write_all(STDOUT_FILENO, b"midway");
-    print_number(words);
-    print_number(first as u64);
-    print_number(count as u64);
+fn midway(
+    rt: &impl Print,
+    w: [u32; 16],
+    size: StateWords,
+    words: u64,
+    first: u32,
+    count: u32,
+) -> io::Result<()> {
+    print!(rt; "midway")?;
+    print_number(rt, words)?;
+    print_number(rt, first as u64)?;
+    print_number(rt, count as u64)?;
     let begun = sparkle::scalar::sparkle_scalar(w, size, 0, first);
-    print_words(sparkle::scalar::sparkle_scalar(begun, size, first, count));
+    print_words(
+        rt,
+        sparkle::scalar::sparkle_scalar(begun, size, first, count),
+    )
 }
 
 // A run of `count` steps in parts of at most `most`, as the head of `sparkle_parts` shows.
-fn parts(w: [u32; 16], size: StateWords, words: u64, count: u32, most: u32)
+fn parts(
+    rt: &impl Print,
+    w: [u32; 16],
+    size: StateWords,
+    words: u64,
+    count: u32,
+    most: u32,
+) -> io::Result<()>
     requires { 0 < most }
 {
     let mut run = PartialRun {
@@ -131,48 +159,49 @@ fn parts(w: [u32; 16], size: StateWords, words: u64, count: u32, most: u32)
     };
     while 0 < run.left {
         run = sparkle_parts::advance(run, most);
-        io::write_all(STDOUT_FILENO, b"part");
-        print_number(words);
-        print_number(run.next as u64);
-        print_number(run.left as u64);
+        print!(rt; "part")?;
+        print_number(rt, words)?;
+        print_number(rt, run.next as u64)?;
+        print_number(rt, run.left as u64)?;
         let after = run.words;
-        print_words(after);
+        print_words(rt, after)?;
     }
+    Ok(())
 }
 
-fn picked_up(w: [u32; 16], size: StateWords, words: u64) {
-    midway(w, size, words, 1, 6);
-    midway(w, size, words, 2, 8);
-    midway(w, size, words, 7, 5);
-    midway(w, size, words, 8, 9);
-    midway(w, size, words, 12, 5);
+fn picked_up(rt: &impl Print, w: [u32; 16], size: StateWords, words: u64) -> io::Result<()> {
+    midway(rt, w, size, words, 1, 6)?;
+    midway(rt, w, size, words, 2, 8)?;
+    midway(rt, w, size, words, 7, 5)?;
+    midway(rt, w, size, words, 8, 9)?;
+    midway(rt, w, size, words, 12, 5)
 }
 
-fn picked_up_in_each_size(w: [u32; 16]) {
-    picked_up(w, StateWords::Words8, 8);
-    picked_up(w, StateWords::Words12, 12);
-    picked_up(w, StateWords::Words16, 16);
+fn picked_up_in_each_size(rt: &impl Print, w: [u32; 16]) -> io::Result<()> {
+    picked_up(rt, w, StateWords::Words8, 8)?;
+    picked_up(rt, w, StateWords::Words12, 12)?;
+    picked_up(rt, w, StateWords::Words16, 16)
 }
 
-fn far_from_step_0(w: [u32; 16]) {
-    from(w, StateWords::Words8, 8, 0xffff_ffff, 2);
-    from(w, StateWords::Words12, 12, 0x1234_5678, 5);
-    from(w, StateWords::Words12, 12, 0xffff_fffd, 7);
-    from(w, StateWords::Words16, 16, 0x8000_0000, 4);
-    from(w, StateWords::Words16, 16, 0xffff_fffe, 3);
+fn far_from_step_0(rt: &impl Print, w: [u32; 16]) -> io::Result<()> {
+    from(rt, w, StateWords::Words8, 8, 0xffff_ffff, 2)?;
+    from(rt, w, StateWords::Words12, 12, 0x1234_5678, 5)?;
+    from(rt, w, StateWords::Words12, 12, 0xffff_fffd, 7)?;
+    from(rt, w, StateWords::Words16, 16, 0x8000_0000, 4)?;
+    from(rt, w, StateWords::Words16, 16, 0xffff_fffe, 3)
 }
 
-fn main() {
-    all(ZEROS);
-    all(PLACES);
-    all(ONES);
-    all(MULTIPLES);
-    picked_up_in_each_size(ZEROS);
-    picked_up_in_each_size(PLACES);
-    picked_up_in_each_size(ONES);
-    picked_up_in_each_size(MULTIPLES);
-    far_from_step_0(PLACES);
-    parts(MULTIPLES, StateWords::Words8, 8, 11, 1);
-    parts(MULTIPLES, StateWords::Words12, 12, 17, 3);
-    parts(MULTIPLES, StateWords::Words16, 16, 12, 5);
+fn main(rt: HostRuntime) -> io::Result<()> {
+    all(&rt, ZEROS)?;
+    all(&rt, PLACES)?;
+    all(&rt, ONES)?;
+    all(&rt, MULTIPLES)?;
+    picked_up_in_each_size(&rt, ZEROS)?;
+    picked_up_in_each_size(&rt, PLACES)?;
+    picked_up_in_each_size(&rt, ONES)?;
+    picked_up_in_each_size(&rt, MULTIPLES)?;
+    far_from_step_0(&rt, PLACES)?;
+    parts(&rt, MULTIPLES, StateWords::Words8, 8, 11, 1)?;
+    parts(&rt, MULTIPLES, StateWords::Words12, 12, 17, 3)?;
+    parts(&rt, MULTIPLES, StateWords::Words16, 16, 12, 5)
 }

@@ -1,5 +1,5 @@
-//! The program `calls` of the port, which `rt check calls` and `rt ci` write to
-//! the repository's target/bin.
+//! The program `calls` of the port, which `rt run` in crates/calls and `rt ci`
+//! write to that crate's folder out.
 
 use std::io::{ErrorKind, Write};
 use std::path::{Path, PathBuf};
@@ -12,10 +12,10 @@ use std::thread;
 ///
 /// Where it is missing.
 pub fn path() -> PathBuf {
-    let path = Path::new(env!("CARGO_MANIFEST_DIR")).join("../../target/bin/calls");
+    let path = Path::new(env!("CARGO_MANIFEST_DIR")).join("../../crates/calls/out/calls");
     assert!(
         path.is_file(),
-        "the program {} is not there; `rt check calls` writes it",
+        "the program {} is not there; `rt run` in crates/calls writes it",
         path.display()
     );
     path

@@ -6,8 +6,8 @@
 //! Program and function take turns in each round, and a number is the median of
 //! the rounds. The program's time runs from its start to its end; it reads a file
 //! and prints to /dev/null. The first row is what starting it takes. What both
-//! answer is compared first. It needs target/bin/calls, which `rt check calls`
-//! writes.
+//! answer is compared first. It needs the program, which `rt run`
+//! in crates/calls writes.
 
 use std::fs::{File, remove_file, write};
 use std::io::Error;
