@@ -1,0 +1,59 @@
+-- `blocks8` meets its contract: the invariant is `Run`, at the sizes of variant 1.
+use Rattle.std.proofs.Common.{◌≡◌, cond, ltb, length, refl, ap, ◌∙◌, ⊎_elim, arith}
+use Rattle.sparkle.proofs.Arrays.{array-words}
+use Rattle.schwaemm.specs.Schwaemm.{schwaemm128_128}
+use Rattle.schwaemm.proofs.Variants.{sizes128_128}
+use Rattle.tc_sparkle_aead.specs.Message.{put_state}
+use Rattle.tc_sparkle_aead.proofs.BlockRuns.{Run, run-start, run-state, run-output, run_fits, length-output, run-turn}
+use Rattle.tc_sparkle_aead.proofs.blocks.blocks8.Goals as goal
+use Rattle.tc_sparkle_aead.proofs.blocks.blocks8.Goals.{Joined-big, At-loop-left, then-big, else-big}
+
+steps-are : (c : goal.Joined-big) → c.if-big.steps ≡ cond c.args.big 10 7
+steps-are c = elim c.if-big.branch [ then-big w ↦ rw w.if-big.true w.steps-is | else-big w ↦ rw w.if-big.false w.steps-is ]
+
+same-output : (c : goal.At-loop-left)
+    → length c.loop-left.output ≡ length c.args.output.now
+same-output c =
+    length-output _ _ _ _ _ _ _ _ c.loop-left.invariant.1 sizes128_128 c.state8-v.type_inv.1.0.1 c.requires.1 c.requires.2
+
+pub loop-left-init : goal.loop-left-init
+loop-left-init c =
+    (steps-are (goal.at.loop-left-init c).Joined-big, run-start _ _ _ _ _ _ _ _ c.state8-v.type_inv.1.0.1 (array-words _ _ c.state8-v.type_inv.1.1))
+
+pub words_in-block-requires : goal.words_in-block-requires
+words_in-block-requires c =
+    (omega arith, omega (arith, run_fits _ _ _ _ _ _ _ _ c.loop-left.invariant.1 c.loop-left-test.true, c.requires))
+
+pub store-requires : goal.store-requires
+store-requires c =
+    (omega arith, λ w. omega (arith, run_fits _ _ _ _ _ _ _ _ c.loop-left.invariant.1 c.loop-left-test.true, c.requires.2 w, same-output (goal.at.store-requires c).At-loop-left))
+
+pub overflow_add-pos : goal.overflow_add-pos
+overflow_add-pos c =
+    omega (arith, run_fits _ _ _ _ _ _ _ _ c.loop-left.invariant.1 c.loop-left-test.true, c.requires, c.well_formed)
+
+pub loop-left-preserved : goal.loop-left-preserved
+loop-left-preserved c = (
+  c.loop-left.invariant.0,
+  run-turn _ _ _ _ _ _ _ _ c.loop-left.invariant.1 sizes128_128 c.state8-v.type_inv.1.0.1 c.requires.1 c.requires.2
+      c.loop-left-test.true _ _ _ _ _ _ refl c.requires.0 c.loop-left.invariant.0
+      (array-words _ _ c.words_in-block.type_inv.1.1) c.words_in-block.type_inv.1.0.1 (omega arith) (omega arith)
+      c.words_in-block.ensures (rw c.crypt_words.ensures at c.store.ensures) c.mix8-next.ensures,
+)
+
+pub shape_of-output : goal.shape_of-output
+shape_of-output c = same-output (goal.at.shape_of-output c).At-loop-left
+
+pub returns : goal.returns
+returns c =
+    let first = c.state8-v.ensures in
+    let done = c.loop-left-test.false in record {
+      value = c.put_state8.ensures ∙ rw (← first) (ap (put_state _ _) (run-state _ _ _ _ _ _ _ _ c.loop-left.invariant.1 done));
+      output_after = rw (← first) (run-output _ _ _ _ _ _ _ _ c.loop-left.invariant.1 done);
+    }
+
+pub overflow_sub-left : goal.overflow_sub-left
+overflow_sub-left c = omega arith
+
+pub loop-left-smaller : goal.loop-left-smaller
+loop-left-smaller c = omega arith
