@@ -15,7 +15,7 @@ blocks16-r-requires c = rw c.in-Schwaemm256_256.is at c.requires
 
 twelve-words : (c : goal.In_default)
     → wide_params (eqb c.nonce_bytes-wide.result 32) ≡ params_of c.args.variant
-twelve-words c = wide_variant c.args.variant c.in_default.in_default-own.keys3 _ c.nonce_bytes-wide.ensures
+twelve-words c = wide_variant c.args.variant c.in_default.not-Schwaemm128_128 c.in_default.not-Schwaemm256_256 _ c.nonce_bytes-wide.ensures
 
 pub blocks12-r-requires : goal.blocks12-r-requires
 blocks12-r-requires c = rw (twelve-words (goal.at.blocks12-r-requires c).In_default) c.requires
