@@ -1,14 +1,13 @@
 -- `reset` drops the tag, goes where the phase says, and takes the count back.
+-- the engine with another point and another tag, and its count taken back
 use Rattle.std.proofs.Common.{ap₂, rules}
 use Rattle.tc_sparkle_aead.specs.declared.message.Point.{Point}
 use Rattle.tc_sparkle_aead.specs.declared.message.Mac.{Mac}
 use Rattle.tc_sparkle_aead.specs.declared.engine.SparkleEngine.{SparkleEngine}
 use Rattle.tc_sparkle_aead.specs.Calls.{reset}
 use Rattle.tc_sparkle_aead.specs.Engine.{reset_steps}
-use Rattle.tc_sparkle_aead.proofs.aead_cipher.reset.Statement.{statement}
-use Rattle.tc_sparkle_aead.proofs.aead_cipher.reset.Tie as tie
+use Rattle.tc_sparkle_aead.proofs.aead_cipher.reset.Goals as goal
 
--- the engine with another point and another tag, and its count taken back
 back : SparkleEngine → Point → Mac → SparkleEngine
 back e at mac =
     record {
@@ -20,10 +19,7 @@ back e at mac =
       steps = record { current = e.steps.initial; initial = e.steps.initial };
     }
 
-returns : tie.Need-returns
+pub returns : goal.returns
 unfolding reset reset_steps back
 returns c =
-    ap₂ (back c.before.before.before.before.before.args.e) c.before.reset-point.ensures c.no-mac.ensures
-
-pub reset-spec : {M : Type 1} → statement M
-reset-spec = tie.close (tie.spec (λ c κs. search rules) (λ c κs. search rules) returns)
+    ap₂ (back c.args.e) c.reset_point-current.ensures c.no_mac-mac.ensures
