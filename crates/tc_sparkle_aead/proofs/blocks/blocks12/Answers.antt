@@ -76,9 +76,3 @@ returns c =
       value = c.put_state12.ensures c.args.wide ∙ rw (← first) (ap (put_state _ _) (run-state _ _ _ _ _ _ _ _ c.loop-left.invariant.2 done));
       output_after = rw (← first) (run-output _ _ _ _ _ _ _ _ c.loop-left.invariant.2 done);
     }
-
-pub overflow_sub-left : goal.overflow_sub-left
-overflow_sub-left c = omega arith
-
-pub loop-left-smaller : goal.loop-left-smaller
-loop-left-smaller c = omega arith

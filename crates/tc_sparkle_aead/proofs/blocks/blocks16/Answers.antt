@@ -71,9 +71,3 @@ returns c =
           ∙ sym (put_all schwaemm256_256 c.args.words _ c.well_formed.0.1.0.1);
       output_after = rw (← first) (run-output _ _ _ _ _ _ _ _ c.loop-left.invariant.1 done);
     }
-
-pub overflow_sub-left : goal.overflow_sub-left
-overflow_sub-left c = omega arith
-
-pub loop-left-smaller : goal.loop-left-smaller
-loop-left-smaller c = omega arith

@@ -51,9 +51,3 @@ returns c =
       value = c.put_state8.ensures ∙ rw (← first) (ap (put_state _ _) (run-state _ _ _ _ _ _ _ _ c.loop-left.invariant.1 done));
       output_after = rw (← first) (run-output _ _ _ _ _ _ _ _ c.loop-left.invariant.1 done);
     }
-
-pub overflow_sub-left : goal.overflow_sub-left
-overflow_sub-left c = omega arith
-
-pub loop-left-smaller : goal.loop-left-smaller
-loop-left-smaller c = omega arith

@@ -47,18 +47,3 @@ returns c =
     (ap (λ (u : List ℕ). xors u v) c.bytes_of-state.ensures
     ∙ sym (crypt-in (params_of c.args.variant) (sizes c.args.variant) c.args.words v
     (omega (arith, length-take c.args.n c.args.block))))
-
-pub bounds-state-i : goal.bounds-state-i
-bounds-state-i c = omega arith
-
-pub bounds-block-i : goal.bounds-block-i
-bounds-block-i c = omega arith
-
-pub bounds-r-i : goal.bounds-r-i
-bounds-r-i c = omega arith
-
-pub overflow_add-i : goal.overflow_add-i
-overflow_add-i c = omega arith
-
-pub loop-i-smaller : goal.loop-i-smaller
-loop-i-smaller c = omega arith

@@ -39,21 +39,3 @@ returns c =
     fill_end 32 _ inv.3 (omega arith) (omega arith)
     ∙ rw (state.ensures, c.nonce_bytes-rate.ensures, c.key_bytes-n.ensures)
     (ap (in_array 32) (tag_of-bytes (params_of v) (sizes v) (small v) c.args.words key hw hk (array-bytes key _ c.well_formed.1.1.0.1.1)))
-
-pub overflow_add-r : goal.overflow_add-r
-overflow_add-r c = omega arith
-
-pub bounds-state-rate : goal.bounds-state-rate
-bounds-state-rate c = omega arith
-
-pub bounds-key-i : goal.bounds-key-i
-bounds-key-i c = omega arith
-
-pub bounds-r-i : goal.bounds-r-i
-bounds-r-i c = omega arith
-
-pub overflow_add-i : goal.overflow_add-i
-overflow_add-i c = omega arith
-
-pub loop-i-smaller : goal.loop-i-smaller
-loop-i-smaller c = omega arith
