@@ -1,11 +1,11 @@
 -- `do_final` goes by its check, and where that passes by the direction; a check that passes gives the callees their room.
--- what is known behind the check, once the direction is asked for
-use Rattle.std.proofs.Common.{sym, ◌∙◌, rules}
+use Rattle.std.proofs.Common.{sym, ◌∙◌}
 use Rattle.tc_sparkle_aead.specs.Engine.{current_key}
 use Rattle.tc_sparkle_aead.proofs.FinalLaws.{Accepted, seal-fits, final_sealed, final_sealed_out, open_fits, final_opened, final_opened_out, final_refused, final_refused_out}
 use Rattle.tc_sparkle_aead.proofs.aead_cipher.do_final.Goals as goal
 use Rattle.tc_sparkle_aead.proofs.aead_cipher.do_final.Goals.{After-opening}
 
+-- what is known behind the check, once the direction is asked for
 accepted : (c : goal.After-opening)
     → Accepted
     c.args.e

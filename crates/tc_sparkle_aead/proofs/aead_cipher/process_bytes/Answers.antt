@@ -1,12 +1,8 @@
 -- `process_bytes` is what the check decides: the accepted call, or the engine and the output as they were.
-use Rattle.std.proofs.Common.{sym, refl, ◌∙◌, rules}
+use Rattle.std.proofs.Common.{sym, refl, ◌∙◌}
 use Rattle.tc_aead_cipher.specs.declared.aead_error.AeadResult.TheVariants.{Err}
 use Rattle.tc_sparkle_aead.proofs.DataLaws.{data-refused, data_refused_out}
 use Rattle.tc_sparkle_aead.proofs.aead_cipher.process_bytes.Goals as goal
-
-pub crypt_bytes-requires : goal.crypt_bytes-requires
-crypt_bytes-requires c =
-    sym c.data_check-answer.ensures ∙ c.in-Ok.is
 
 pub returns-in-Err : goal.returns-in-Err
 returns-in-Err c =

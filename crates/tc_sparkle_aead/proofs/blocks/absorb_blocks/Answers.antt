@@ -1,8 +1,5 @@
 -- `absorb_blocks` takes up the blocks that have held bytes in them, then those of the input.
--- the blocks with held bytes in them
--- where the input's own blocks begin
--- some blocks have no held bytes in them
-use Rattle.std.proofs.Common.{◌≡◌, ℕ, ◌+◌, ◌-◌, ◌*◌, ◌<◌, ◌≤◌, ◌≢◌, false, length, refl, ap, arith, length-drop, rules}
+use Rattle.std.proofs.Common.{◌≡◌, ℕ, ◌+◌, ◌-◌, ◌*◌, ◌<◌, ◌≤◌, ◌≢◌, false, refl, ap, arith, length-drop}
 use Rattle.schwaemm.specs.Schwaemm.{Params, absorb_block, sealing}
 use Rattle.tc_aead_cipher.specs.Variant.{params_of}
 use Rattle.tc_aead_cipher.proofs.VariantLaws.{small}
@@ -21,9 +18,6 @@ unfolding absorb_block block_step plain_by sealing
 returns-then-held-eq0 c =
     stream-none c.args.variant false c.args.words c.args.buffer c.args.input.now c.args.held c.args.count c.well_formed.1.0.1.0.1 c.well_formed.1.1.0.1.0.1 c.requires.0 c.requires.1 _
     (omega (arith, c.if-held-eq0.true)) c.blocks-then-held-eq0.ensures.words_after
-
-pub held_blocks-first-requires : goal.held_blocks-first-requires
-held_blocks-first-requires c = omega (arith, c.requires, small c.args.variant)
 
 pub overflow_mul-n : goal.overflow_mul-n
 overflow_mul-n c = rw c.nonce_bytes.ensures (omega (arith, held_first c.args.variant c.args.held c.args.count _ c.requires.0 c.held_blocks-first.ensures))
@@ -47,10 +41,12 @@ pub overflow_sub-at : goal.overflow_sub-at
 overflow_sub-at c =
     rw c.nonce_bytes.ensures ((held_first c.args.variant c.args.held c.args.count _ c.requires.0 c.held_blocks-first.ensures).all (omega (arith, held_first c.args.variant c.args.held c.args.count _ c.requires.0 c.held_blocks-first.ensures, c.if-first-count.false)))
 
+-- where the input's own blocks begin
 starts : (p : Params) (held count first rate total : ℕ) → Held p held count first → rate ≡ p.rate → count * p.rate ≤ held + total
     → first * rate - held ≤ total
 starts p held count first rate total k e fits = rw e (omega (arith, held_within p held count first k, fits))
 
+-- some blocks have no held bytes in them
 more : {p : Params} {held count first : ℕ} → Held p held count first → first ≢ count → first < count
 more k ne = omega (arith, k.some, ne)
 

@@ -1,12 +1,12 @@
 -- `blocks12` meets its contract: the invariant is `Run`, at the sizes of variant 2 or 3.
-use Rattle.std.proofs.Common.{◌≡◌, ℕ, Bool, cond, ltb, length, sym, ap, ◌∙◌, ap₂, ⊎_elim, arith}
+use Rattle.std.proofs.Common.{◌≡◌, ℕ, Bool, cond, length, sym, ap, ◌∙◌, ap₂, arith}
 use Rattle.sparkle.specs.Sparkle.{run, xors}
 use Rattle.schwaemm.specs.Bytes.{to_bytes}
 use lib.Seq.{paste}
 use Rattle.sparkle.proofs.Arrays.{array-words}
 use Rattle.schwaemm.proofs.States.{state_length}
 use Rattle.tc_sparkle_aead.specs.Message.{put_state, wide_params, xor_block}
-use Rattle.tc_sparkle_aead.proofs.BlockRuns.{Run, sizes_wide, twelve, run-start, run-state, run-output, run_fits, length-output, run-turn}
+use Rattle.tc_sparkle_aead.proofs.BlockRuns.{sizes_wide, twelve, run-start, run-state, run-output, run_fits, length-output, run-turn}
 use Rattle.tc_sparkle_aead.proofs.blocks.blocks12.Goals as goal
 use Rattle.tc_sparkle_aead.proofs.blocks.blocks12.Goals.{Joined-wide, Joined-big, At-loop-left, then-big, else-big, then-wide, else-wide}
 
@@ -32,17 +32,9 @@ loop-left-init c = (
   run-start _ _ _ _ _ _ _ _ (first-length c.args.wide _ c.state12-v.type_inv.1.0.1) (array-words _ _ c.state12-v.type_inv.1.1),
 )
 
-pub load12-block-requires : goal.load12-block-requires
-load12-block-requires c =
-    omega (arith, run_fits _ _ _ _ _ _ _ _ c.loop-left.invariant.2 c.loop-left-test.true, c.requires)
-
 pub store12-requires : goal.store12-requires
 store12-requires c =
     λ w. omega (arith, run_fits _ _ _ _ _ _ _ _ c.loop-left.invariant.2 c.loop-left-test.true, c.requires.2 w, same-output (goal.at.store12-requires c).At-loop-left)
-
-pub overflow_add-pos : goal.overflow_add-pos
-overflow_add-pos c =
-    omega (arith, run_fits _ _ _ _ _ _ _ _ c.loop-left.invariant.2 c.loop-left-test.true, c.loop-left.invariant.0, c.requires, c.well_formed)
 
 pub loop-left-preserved : goal.loop-left-preserved
 loop-left-preserved c =

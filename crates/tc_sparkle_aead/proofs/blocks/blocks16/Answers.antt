@@ -1,6 +1,5 @@
 -- `blocks16` meets its contract: the invariant is `Run` on the state that the groups hold, at the sizes of variant 4.
--- the state that the loop begins with
-use Rattle.std.proofs.Common.{◌≡◌, ℕ, List, cond, ltb, length, sym, refl, ap, ◌∙◌, subst, ⊎_elim, arith}
+use Rattle.std.proofs.Common.{◌≡◌, ℕ, List, cond, length, sym, refl, ap, ◌∙◌, subst, arith}
 use Rattle.sparkle.specs.Words.{Words}
 use Rattle.sparkle.specs.Sparkle.{xors}
 use Rattle.sparkle.specs.Lanes.{joined}
@@ -11,13 +10,14 @@ use Rattle.schwaemm.proofs.Variants.{sizes256_256}
 use Rattle.schwaemm.proofs.Xors.{xors_enough}
 use Rattle.tc_sparkle_aead.specs.Message.{state_in, xor_last}
 use Rattle.tc_sparkle_aead.proofs.StateLaws.{put_all, state-length, length-xor_last, words-xor_last}
-use Rattle.tc_sparkle_aead.proofs.BlockRuns.{Run, run-start, run-state, run-output, run_fits, length-output, run-turn}
+use Rattle.tc_sparkle_aead.proofs.BlockRuns.{run-start, run-state, run-output, run_fits, length-output, run-turn}
 use Rattle.tc_sparkle_aead.proofs.blocks.blocks16.Goals as goal
 use Rattle.tc_sparkle_aead.proofs.blocks.blocks16.Goals.{Joined-big, After-state16-g, At-loop-left, then-big, else-big}
 
 steps-are : (c : goal.Joined-big) → c.if-big.steps ≡ cond c.args.big 12 8
 steps-are c = elim c.if-big.branch [ then-big w ↦ rw w.if-big.true w.steps-is | else-big w ↦ rw w.if-big.false w.steps-is ]
 
+-- the state that the loop begins with
 first-length : (words s : List ℕ) (last : ℕ) → length words ≡ 16 → s ≡ xor_last schwaemm256_256 last (state_in schwaemm256_256 words) → length s ≡ 16
 first-length words s last hw e =
     ap length e ∙ length-xor_last schwaemm256_256 last _ ∙ state-length schwaemm256_256 words (omega (arith, hw))
@@ -36,17 +36,9 @@ same-output c =
 pub loop-left-init : goal.loop-left-init
 loop-left-init c = (steps-are (goal.at.loop-left-init c).Joined-big, run-start _ _ _ _ _ _ _ _ (first-length _ _ _ c.well_formed.0.1.0.1 c.state16-g.ensures) (first-words (goal.at.loop-left-init c).After-state16-g))
 
-pub words_in-block-requires : goal.words_in-block-requires
-words_in-block-requires c =
-    (omega arith, omega (arith, run_fits _ _ _ _ _ _ _ _ c.loop-left.invariant.1 c.loop-left-test.true, c.requires))
-
 pub store-requires : goal.store-requires
 store-requires c =
     (omega arith, λ w. omega (arith, run_fits _ _ _ _ _ _ _ _ c.loop-left.invariant.1 c.loop-left-test.true, c.requires.2 w, same-output (goal.at.store-requires c).At-loop-left))
-
-pub overflow_add-pos : goal.overflow_add-pos
-overflow_add-pos c =
-    omega (arith, run_fits _ _ _ _ _ _ _ _ c.loop-left.invariant.1 c.loop-left-test.true, c.requires, c.well_formed)
 
 pub loop-left-preserved : goal.loop-left-preserved
 loop-left-preserved c =

@@ -1,10 +1,9 @@
 -- `blocks8` meets its contract: the invariant is `Run`, at the sizes of variant 1.
-use Rattle.std.proofs.Common.{◌≡◌, cond, ltb, length, refl, ap, ◌∙◌, ⊎_elim, arith}
+use Rattle.std.proofs.Common.{◌≡◌, cond, length, refl, ap, ◌∙◌, arith}
 use Rattle.sparkle.proofs.Arrays.{array-words}
-use Rattle.schwaemm.specs.Schwaemm.{schwaemm128_128}
 use Rattle.schwaemm.proofs.Variants.{sizes128_128}
 use Rattle.tc_sparkle_aead.specs.Message.{put_state}
-use Rattle.tc_sparkle_aead.proofs.BlockRuns.{Run, run-start, run-state, run-output, run_fits, length-output, run-turn}
+use Rattle.tc_sparkle_aead.proofs.BlockRuns.{run-start, run-state, run-output, run_fits, length-output, run-turn}
 use Rattle.tc_sparkle_aead.proofs.blocks.blocks8.Goals as goal
 use Rattle.tc_sparkle_aead.proofs.blocks.blocks8.Goals.{Joined-big, At-loop-left, then-big, else-big}
 
@@ -20,17 +19,9 @@ pub loop-left-init : goal.loop-left-init
 loop-left-init c =
     (steps-are (goal.at.loop-left-init c).Joined-big, run-start _ _ _ _ _ _ _ _ c.state8-v.type_inv.1.0.1 (array-words _ _ c.state8-v.type_inv.1.1))
 
-pub words_in-block-requires : goal.words_in-block-requires
-words_in-block-requires c =
-    (omega arith, omega (arith, run_fits _ _ _ _ _ _ _ _ c.loop-left.invariant.1 c.loop-left-test.true, c.requires))
-
 pub store-requires : goal.store-requires
 store-requires c =
     (omega arith, λ w. omega (arith, run_fits _ _ _ _ _ _ _ _ c.loop-left.invariant.1 c.loop-left-test.true, c.requires.2 w, same-output (goal.at.store-requires c).At-loop-left))
-
-pub overflow_add-pos : goal.overflow_add-pos
-overflow_add-pos c =
-    omega (arith, run_fits _ _ _ _ _ _ _ _ c.loop-left.invariant.1 c.loop-left-test.true, c.requires, c.well_formed)
 
 pub loop-left-preserved : goal.loop-left-preserved
 loop-left-preserved c = (

@@ -1,17 +1,10 @@
 -- `crypt_blocks` takes up the blocks that have held bytes in them, then those of the input, and writes what they become.
--- the mask tells the direction
--- the blocks with held bytes in them
--- where the input's own blocks begin
--- some blocks have no held bytes in them
--- the output keeps its length
--- where the output behind the gathered blocks begins
--- what the output is once its lent part is back
-use Rattle.std.proofs.Common.{◌≡◌, ℕ, ◌+◌, ◌-◌, ◌*◌, ◌<◌, ◌≤◌, ◌≢◌, false, ltb, List, ◌++◌, length, take, drop, ap, ◌∙◌, arith, length-drop, rules}
+use Rattle.std.proofs.Common.{◌≡◌, ℕ, ◌+◌, ◌-◌, ◌*◌, ◌<◌, ◌≤◌, ◌≢◌, false, List, ◌++◌, length, take, drop, ap, ◌∙◌, arith, length-drop}
 use Rattle.schwaemm.specs.Blocks.{given}
 use Rattle.schwaemm.specs.Schwaemm.{Params, message_block, crypt}
 use Rattle.tc_aead_cipher.specs.Variant.{params_of}
 use Rattle.tc_aead_cipher.proofs.VariantLaws.{small}
-use Rattle.tc_sparkle_aead.specs.Message.{state_in, mask_of, block_step}
+use Rattle.tc_sparkle_aead.specs.Message.{state_in, block_step}
 use Rattle.tc_sparkle_aead.proofs.StreamLaws.{Held, length_output_first, length_output_all, held_first, held_within, rest-bytes, lent-from, lent_back, mask-opens, mask_own, stream-none, output-none, first-state, stream-first, output-first, stream-rest, output-rest}
 use Rattle.tc_sparkle_aead.proofs.blocks.crypt_blocks.Goals as goal
 use Rattle.tc_sparkle_aead.proofs.blocks.crypt_blocks.Goals.{After-blocks-2, After-blocks-3}
@@ -31,9 +24,6 @@ returns-then-held-eq0 c =
       value = stream-none v c.args.opening c.args.words c.args.buffer c.args.input.now c.args.held c.args.count hw hb c.requires.0 c.requires.1 _ none done.words_after;
       output_after = output-none v c.args.opening c.args.words c.args.buffer c.args.input.now c.args.held c.args.count hw hb c.requires.0 c.requires.1 _ _ none done.output_after;
     }
-
-pub held_blocks-first-requires : goal.held_blocks-first-requires
-held_blocks-first-requires c = omega (arith, c.requires, small c.args.variant)
 
 pub overflow_mul-n : goal.overflow_mul-n
 overflow_mul-n c = rw c.nonce_bytes.ensures (omega (arith, held_first c.args.variant c.args.held c.args.count _ c.requires.0 c.held_blocks-first.ensures))
@@ -65,13 +55,16 @@ pub overflow_sub-at : goal.overflow_sub-at
 overflow_sub-at c =
     rw c.nonce_bytes.ensures ((held_first c.args.variant c.args.held c.args.count _ c.requires.0 c.held_blocks-first.ensures).all (omega (arith, held_first c.args.variant c.args.held c.args.count _ c.requires.0 c.held_blocks-first.ensures, c.if-first-count.false)))
 
+-- where the input's own blocks begin
 starts : (p : Params) (held count first rate total : ℕ) → Held p held count first → rate ≡ p.rate → count * p.rate ≤ held + total
     → first * rate - held ≤ total
 starts p held count first rate total k e fits = rw e (omega (arith, held_within p held count first k, fits))
 
+-- some blocks have no held bytes in them
 more : {p : Params} {held count first : ℕ} → Held p held count first → first ≢ count → first < count
 more k ne = omega (arith, k.some, ne)
 
+-- the output keeps its length
 length-first : (c : goal.After-blocks-2) → length c.blocks-2.new.output ≡ length c.args.output.now
 length-first c =
     let first = c.held_blocks-first.result in
@@ -79,6 +72,7 @@ length-first c =
     (ap (λ (r : ℕ). first * r) c.nonce_bytes.ensures) (held_first c.args.variant c.args.held c.args.count _ c.requires.0 c.held_blocks-first.ensures) c.gather-part.ensures _ _ c.requires.2
     (rw (mask-opens c.args.opening _ c.mask-m.ensures) at c.blocks-2.ensures.output_after)
 
+-- where the output behind the gathered blocks begins
 behind : (p : Params) (held count first rate done out : ℕ) → Held p held count first → rate ≡ p.rate → done ≡ out → count * p.rate ≤ out
     → first * rate ≤ done
 behind p held count first rate done out k e same fits = rw e (omega (arith, held_within p held count first k, same, fits))
@@ -98,6 +92,7 @@ blocks-requires-3 c =
 pub shape_of-output-then-first-count : goal.shape_of-output-then-first-count
 shape_of-output-then-first-count c = length-first (goal.at.shape_of-output-then-first-count c).After-blocks-2
 
+-- what the output is once its lent part is back
 the-output : (c : goal.After-blocks-3)
     → take (c.held_blocks-first.result * c.nonce_bytes.result) c.blocks-2.new.output
     ++ (c.blocks-3.new.output

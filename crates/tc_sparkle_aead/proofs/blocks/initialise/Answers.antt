@@ -1,5 +1,5 @@
 -- `initialise` lets the state that is made of the key take up the nonce.
-use Rattle.std.proofs.Common.{refl, arith, rules}
+use Rattle.std.proofs.Common.{refl, arith}
 use Rattle.sparkle.proofs.Arrays.{array-words}
 use Rattle.tc_aead_cipher.specs.Variant.{params_of}
 use Rattle.tc_aead_cipher.proofs.VariantLaws.{sizes, small}
@@ -7,9 +7,6 @@ use Rattle.tc_sparkle_aead.specs.Message.{mask_of}
 use Rattle.tc_sparkle_aead.proofs.BlockRuns.{no_write}
 use Rattle.tc_sparkle_aead.proofs.StartLaws.{key-words, put_start}
 use Rattle.tc_sparkle_aead.proofs.blocks.initialise.Goals as goal
-
-pub in_array-k-requires : goal.in_array-k-requires
-in_array-k-requires c = omega (arith, small c.args.variant, c.requires)
 
 pub blocks-requires : goal.blocks-requires
 unfolding mask_of

@@ -1,5 +1,5 @@
 -- `pad` meets its contract: a short block gets byte 80 before the zeros that are there.
-use Rattle.std.proofs.Common.{◌≡◌, length, take, set, sym, ap, ◌∙◌, arith, length-take-le, rules}
+use Rattle.std.proofs.Common.{◌≡◌, length, take, set, sym, ap, ◌∙◌, arith, length-take-le}
 use Rattle.schwaemm.proofs.States.{padded_full}
 use Rattle.tc_aead_cipher.specs.Variant.{params_of}
 use Rattle.tc_sparkle_aead.specs.Message.{in_array}
@@ -11,12 +11,6 @@ use Rattle.tc_sparkle_aead.proofs.blocks.pad.Goals.{Start}
 block-length : (s : goal.Start) → length (take s.args.n s.args.buffer) ≡ s.args.n
 block-length s =
     length-take-le s.args.n s.args.buffer (omega (arith, small s.args.variant, s.well_formed.1.0.1.0.1))
-
-pub part-r-requires : goal.part-r-requires
-part-r-requires c = omega (arith, small c.args.variant, c.well_formed.1.0.1.0.1)
-
-pub bounds-r-n : goal.bounds-r-n
-bounds-r-n c = omega (arith, small c.args.variant)
 
 pub returns-then-n-nonce_bytes : goal.returns-then-n-nonce_bytes
 returns-then-n-nonce_bytes c =

@@ -1,5 +1,4 @@
 -- `start_words` is the start of the variant.
-use Rattle.std.proofs.Common.{rules}
 use Rattle.tc_sparkle_aead.proofs.blocks.start_words.Goals as goal
 
 pub returns-in-Schwaemm128_128 : goal.returns-in-Schwaemm128_128

@@ -1,5 +1,5 @@
 -- `open_whole` writes where the verifying pass answers a count, and only there.
-use Rattle.std.proofs.Common.{length, ap, arith, rules}
+use Rattle.std.proofs.Common.{length, ap, arith}
 use Rattle.tc_aead_cipher.specs.declared.reply.Reply.{Reply}
 use Rattle.tc_sparkle_aead.specs.OpenWhole.{open_whole}
 use Rattle.tc_sparkle_aead.proofs.OpenWholeLaws.{opened_sized, output-opened, output-refused}

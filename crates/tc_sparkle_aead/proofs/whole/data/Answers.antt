@@ -1,7 +1,4 @@
 -- `data` is where the message's blocks lead from the words alone, and writes what they become where it is told to.
--- the number of blocks that go
--- the bytes that go are at most those that there are, and few enough stay
--- the output holds what they become, where it is written
 use Rattle.std.proofs.Common.{◌≡◌, ℕ, ◌-◌, ◌*◌, ◌≤◌, true, length, ap, ◌∙◌, arith, rules}
 use Rattle.schwaemm.specs.Blocks.{ready}
 use Rattle.schwaemm.specs.Schwaemm.{Params}
@@ -20,10 +17,12 @@ use Rattle.tc_sparkle_aead.proofs.whole.data.Goals.{Start, After-block_count-cou
 words-length : (c : goal.Start) → length c.args.words ≡ 16
 words-length c = search rules
 
+-- the number of blocks that go
 counted : (p : Params) (d : Direction) (count kept total : ℕ) → count ≡ ready p.rate kept total → kept ≡ keep p (Data d)
     → count ≡ ready p.rate (keep p (Data d)) total
 counted p d count kept total e k = rw k at e
 
+-- the bytes that go are at most those that there are, and few enough stay
 gone : (c : goal.After-nonce_bytes)
     → c.block_count-count.result * c.nonce_bytes.result ≤ length c.args.input.now
 gone c =
@@ -42,6 +41,7 @@ stays c =
       keep_bound (params_of v) (Data c.args.d),
     ))
 
+-- the output holds what they become, where it is written
 room : (c : goal.After-block_count-count)
     → c.args.write ≡ true → c.block_count-count.result * (params_of c.args.variant).rate ≤ length c.args.output.now
 room c e =

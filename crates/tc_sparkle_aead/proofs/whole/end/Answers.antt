@@ -1,8 +1,6 @@
 -- `end` goes by its check, and where that passes by the direction; a check that passes gives the callees their room.
--- the direction, and the room of the check that has passed
-use Rattle.std.proofs.Common.{◌≡◌, ◌+◌, ◌≤◌, true, false, length, sym, ap, ◌∙◌, arith, rules}
+use Rattle.std.proofs.Common.{◌≡◌, ◌+◌, ◌≤◌, true, false, length, sym, ap, ◌∙◌, arith}
 use Rattle.tc_aead_cipher.specs.Checks.{opening}
-use Rattle.tc_aead_cipher.proofs.VariantLaws.{small}
 use Rattle.tc_sparkle_aead.specs.Packet.{PacketResult}
 use Rattle.tc_sparkle_aead.proofs.WholeLaws.{end_refused, end_fits, end-opened, end_opened_out, end_sealed, end_sealed_out, seal-fits, open_fits}
 use Rattle.tc_sparkle_aead.proofs.whole.end.Goals as goal
@@ -13,10 +11,7 @@ returns-in_default c =
     let s = c.args in
     let refused = end_refused s.variant s.at s.key.now s.n s.output.now _ c.end_check-answer.ensures _ c.in_default.is in record { value = c.reply_of.ensures ∙ ap (λ (r : PacketResult). r.reply) refused; output_after = ap (λ (r : PacketResult). r.out) refused }
 
-pub in_array-k-requires : goal.in_array-k-requires
-in_array-k-requires c =
-    omega (arith, c.requires, small c.args.variant)
-
+-- the direction, and the room of the check that has passed
 opening-is : (c : goal.After-opening)
     → c.opening.result ≡ opening c.args.at.phase
 opening-is c = c.opening.ensures

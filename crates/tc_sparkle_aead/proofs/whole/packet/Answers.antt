@@ -1,6 +1,5 @@
 -- `packet` goes by the check of its start, then by that of its data; what is left is the end at the point of the data.
--- the lengths that the start's check found
-use Rattle.std.proofs.Common.{◌≡◌, length, sym, ap, ◌∙◌, arith, rules}
+use Rattle.std.proofs.Common.{◌≡◌, length, sym, ap, ◌∙◌, arith}
 use Rattle.tc_aead_cipher.specs.Variant.{params_of}
 use Rattle.tc_aead_cipher.proofs.CheckLaws.{start_check_lengths}
 use Rattle.tc_sparkle_aead.specs.Packet.{PacketResult}
@@ -23,6 +22,7 @@ returns-in_default-answer c =
     c.tag_bytes.ensures c.start_check-start.ensures c.in-Ok.is _ c.data_check-answer.ensures _
     c.in_default-answer.is in record { value = c.reply_of.ensures ∙ ap (λ (r : PacketResult). r.reply) refused; output_after = ap (λ (r : PacketResult). r.out) refused }
 
+-- the lengths that the start's check found
 lengths : (c : goal.In-Ok)
     → let a = c.args in
     let p = params_of a.variant in
