@@ -10,7 +10,7 @@ use Rattle.tc_sparkle_aead.specs.Message.{mask_of, plain_by, block_step}
 use Rattle.tc_sparkle_aead.proofs.BlockRuns.{no_write}
 use Rattle.tc_sparkle_aead.proofs.StreamLaws.{Held, held_first, held_within, rest-bytes, lent-from, stream-none, first-state, stream-first, stream-rest}
 use Rattle.tc_sparkle_aead.proofs.blocks.absorb_blocks.Goals as goal
-use Rattle.tc_sparkle_aead.proofs.blocks.absorb_blocks.Goals.{After-held_blocks-first, After-v-3-1, Else-first-count}
+use Rattle.tc_sparkle_aead.proofs.blocks.absorb_blocks.Goals.{After-held_blocks-first, Else-first-count}
 
 pub blocks-requires : goal.blocks-requires
 unfolding mask_of
@@ -53,7 +53,7 @@ pub overflow_sub-at : goal.overflow_sub-at
 overflow_sub-at c =
     rw c.nonce_bytes.ensures ((held (goal.at.overflow_sub-at c).After-held_blocks-first).all (omega (arith, held (goal.at.overflow_sub-at c).After-held_blocks-first, c.if-first-count.false)))
 
-starts : (c : After-v-3-1)
+starts : (c : Else-first-count)
     → c.held_blocks-first.result * c.nonce_bytes.result - c.args.held ≤ length c.args.input.now
 starts c =
     let within : c.held_blocks-first.result * (params_of c.args.variant).rate ≤ c.args.count * (params_of c.args.variant).rate = held_within (params_of c.args.variant) c.args.held c.args.count c.held_blocks-first.result (held_first c.args.variant c.args.held c.args.count c.held_blocks-first.result c.requires.0 c.held_blocks-first.ensures) in
@@ -70,7 +70,7 @@ blocks-requires-3 c =
     let k = held (goal.at.blocks-requires-3 c).After-held_blocks-first in
     let first = c.held_blocks-first.result in (
       refl,
-      rw (lent-from c.args.input.now _ (starts (goal.at.blocks-requires-3 c).After-v-3-1)) (simp length-drop (rw c.nonce_bytes.ensures
+      rw (lent-from c.args.input.now _ (starts (goal.at.blocks-requires-3 c).Else-first-count)) (simp length-drop (rw c.nonce_bytes.ensures
           (omega (arith, rest-bytes (params_of c.args.variant) c.args.held c.args.count first k, c.requires, k.all (more (goal.at.blocks-requires-3 c).Else-first-count))))),
       no_write _ _,
     )
@@ -86,15 +86,15 @@ returns c =
     let hw = c.well_formed.1.0.1.0.1 in
     let hb = c.well_formed.1.1.0.1.0.1 in
     stream-rest v false c.args.words c.args.buffer c.args.input.now c.args.held c.args.count hw hb c.requires.0 c.requires.1 first _ _ en k ep
-    (more (goal.at.returns c).Else-first-count) _ (lent-from c.args.input.now _ (starts (goal.at.returns c).After-v-3-1)) _ _
+    (more (goal.at.returns c).Else-first-count) _ (lent-from c.args.input.now _ (starts (goal.at.returns c).Else-first-count)) _ _
     (first-state v false c.args.words c.args.buffer c.args.input.now c.args.held c.args.count hw hb c.requires.0 c.requires.1 first _ _ en k ep _ c.blocks-2.ensures.words_after)
     c.blocks-3.ensures.words_after
 
 pub slice_bounds-blocks-count : goal.slice_bounds-blocks-count
-slice_bounds-blocks-count c = starts c
+slice_bounds-blocks-count c = starts (goal.at.slice_bounds-blocks-count c).Else-first-count
 
 pub slice_bounds-blocks-start : goal.slice_bounds-blocks-start
-slice_bounds-blocks-start c = starts c
+slice_bounds-blocks-start c = starts (goal.at.slice_bounds-blocks-start c).Else-first-count
 
 pub overflow_sub-count : goal.overflow_sub-count
 overflow_sub-count c = omega (arith, held (goal.at.overflow_sub-count c).After-held_blocks-first)

@@ -14,7 +14,7 @@ use Rattle.tc_aead_cipher.proofs.VariantLaws.{small}
 use Rattle.tc_sparkle_aead.specs.Message.{state_in, mask_of, block_step}
 use Rattle.tc_sparkle_aead.proofs.StreamLaws.{Held, length_output_first, length_output_all, held_first, held_within, rest-bytes, lent-from, lent_back, mask-opens, mask_own, stream-none, output-none, first-state, stream-first, output-first, stream-rest, output-rest}
 use Rattle.tc_sparkle_aead.proofs.blocks.crypt_blocks.Goals as goal
-use Rattle.tc_sparkle_aead.proofs.blocks.crypt_blocks.Goals.{After-mask-m, After-held_blocks-first, After-v-3-1, Else-first-count, After-blocks-2, After-slice_known-3-1}
+use Rattle.tc_sparkle_aead.proofs.blocks.crypt_blocks.Goals.{After-mask-m, After-held_blocks-first, Else-first-count, After-blocks-2, After-slice_known-3-1}
 
 own : (c : After-mask-m) → c.mask-m.result ≡ mask_of (ltb 0 c.mask-m.result)
 own c = mask_own c.args.opening _ c.mask-m.ensures
@@ -70,7 +70,7 @@ pub overflow_sub-at : goal.overflow_sub-at
 overflow_sub-at c =
     rw c.nonce_bytes.ensures ((held (goal.at.overflow_sub-at c).After-held_blocks-first).all (omega (arith, held (goal.at.overflow_sub-at c).After-held_blocks-first, c.if-first-count.false)))
 
-starts : (c : After-v-3-1)
+starts : (c : Else-first-count)
     → c.held_blocks-first.result * c.nonce_bytes.result - c.args.held ≤ length c.args.input.now
 starts c =
     let within : c.held_blocks-first.result * (params_of c.args.variant).rate ≤ c.args.count * (params_of c.args.variant).rate = held_within (params_of c.args.variant) c.args.held c.args.count c.held_blocks-first.result (held_first c.args.variant c.args.held c.args.count c.held_blocks-first.result c.requires.0 c.held_blocks-first.ensures) in
@@ -101,7 +101,7 @@ blocks-requires-3 c =
     let first = c.held_blocks-first.result in
     let bytes = rest-bytes (params_of c.args.variant) c.args.held c.args.count first k in (
       own (goal.at.blocks-requires-3 c).After-mask-m,
-      rw (lent-from c.args.input.now _ (starts (goal.at.blocks-requires-3 c).After-v-3-1)) (simp length-drop (rw c.nonce_bytes.ensures
+      rw (lent-from c.args.input.now _ (starts (goal.at.blocks-requires-3 c).Else-first-count)) (simp length-drop (rw c.nonce_bytes.ensures
           (omega (arith, bytes, c.requires, k.all (more (goal.at.blocks-requires-3 c).Else-first-count))))),
       λ w. rw (lent-from c.blocks-2.new.output _ (behind (goal.at.blocks-requires-3 c).After-blocks-2)) (simp length-drop (rw c.nonce_bytes.ensures
           (omega (arith, bytes, length-first (goal.at.blocks-requires-3 c).After-blocks-2, c.requires)))),
@@ -154,14 +154,14 @@ returns c =
     let ep = c.gather-part.ensures in
     let one = rw (opens (goal.at.returns c).After-mask-m) at c.blocks-2.ensures in
     let two = rw (opens (goal.at.returns c).After-mask-m) at c.blocks-3.ensures in
-    let lent = lent-from c.args.input.now _ (starts (goal.at.returns c).After-v-3-1) in
+    let lent = lent-from c.args.input.now _ (starts (goal.at.returns c).Else-first-count) in
     let mid = first-state v c.args.opening c.args.words c.args.buffer c.args.input.now c.args.held c.args.count hw hb c.requires.0 c.requires.1 first _ _ en k ep _ one.words_after in record { value = stream-rest v c.args.opening c.args.words c.args.buffer c.args.input.now c.args.held c.args.count hw hb c.requires.0 c.requires.1 first _ _ en k ep (more (goal.at.returns c).Else-first-count) _ lent _ _ mid two.words_after; output_after = the-output c; }
 
 pub slice_bounds-blocks-count : goal.slice_bounds-blocks-count
-slice_bounds-blocks-count c = starts c
+slice_bounds-blocks-count c = starts (goal.at.slice_bounds-blocks-count c).Else-first-count
 
 pub slice_bounds-blocks-start : goal.slice_bounds-blocks-start
-slice_bounds-blocks-start c = starts c
+slice_bounds-blocks-start c = starts (goal.at.slice_bounds-blocks-start c).Else-first-count
 
 pub slice_bounds-blocks-count-2 : goal.slice_bounds-blocks-count-2
 slice_bounds-blocks-count-2 c = behind (goal.at.slice_bounds-blocks-count-2 c).After-blocks-2

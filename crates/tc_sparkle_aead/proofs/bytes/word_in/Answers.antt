@@ -2,7 +2,6 @@
 use Rattle.std.proofs.Common.{ℕ, ◌+◌, ◌*◌, ◌^◌, ◌<◌, get_or, arith, rules}
 use Rattle.tc_sparkle_aead.proofs.WordLaws.{word-from}
 use Rattle.tc_sparkle_aead.proofs.bytes.word_in.Goals as goal
-use Rattle.tc_sparkle_aead.proofs.bytes.word_in.Goals.{After-shared_slice_known-4-1}
 
 pub returns : goal.returns
 returns c =

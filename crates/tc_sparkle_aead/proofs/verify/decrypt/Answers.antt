@@ -34,7 +34,7 @@ overflow_sub-sealed c = (stays (goal.at.overflow_sub-sealed c).After-tag_bytes).
 
 pub put-requires : goal.put-requires
 put-requires c =
-    omega (arith, c.tag_bytes.ensures, stays (goal.at.put-requires c).After-tag_bytes, small c.args.variant, c.requires.3, c.data-at.auto.1.1.1.1.0)
+    omega (arith, c.tag_bytes.ensures, stays (goal.at.put-requires c).After-tag_bytes, small c.args.variant, c.requires.3, c.data-at.auto.output)
 
 pub returns : goal.returns
 returns c =

@@ -39,11 +39,10 @@ data-at-requires c = λ e.
 
 pub end-requires : goal.end-requires
 end-requires c =
-    let written = data-below _ _ _ _ _ _ (sym c.data_check-answer.ensures ∙ c.in-Ok-answer.is) in
-    let size = c.output-1.given in (
+    let written = data-below _ _ _ _ _ _ (sym c.data_check-answer.ensures ∙ c.in-Ok-answer.is) in (
       (lengths (goal.at.end-requires c).In-Ok).0,
       whole_in_data _ _ _ _ _ c.data-at.ensures.value,
-      omega (arith, written, size),
+      omega (arith, written),
     )
 
 pub returns : goal.returns
