@@ -1,6 +1,6 @@
 -- What holds in a loop over blocks, at each of the three sizes: the blocks that are done are `count - left`, they have led
 -- to the state, and the output begins with what they became where it is written.
-use Rattle.std.proofs.Common.{◌≡◌, ℕ, ◌+◌, ◌-◌, ◌*◌, ◌/◌, ◌<◌, ◌≤◌, Bool, true, false, cond, eqb, List, [], ◌∷◌, ◌++◌, length, take, drop, sym, refl, ap, ◌∙◌, subst, ap₂, append-nil, mul-le-mul_right, add-mul, one-mul, zero-mul, arith, length-append, length-drop, length-take-le, drop-drop, take_at, drop_at}
+use Rattle.std.proofs.Common.{◌≡◌, ℕ, ◌+◌, ◌-◌, ◌*◌, ◌/◌, ◌<◌, ◌≤◌, Bool, true, false, cond, eqb, List, ◌++◌, length, take, drop, sym, refl, ap, ◌∙◌, subst, ap₂, append-nil, mul-le-mul_right, add-mul, one-mul, zero-mul, arith, length-append, length-drop, length-take-le, drop-drop, take_at, drop_at}
 use lib.Seq.{drop-append-add, paste}
 use Rattle.sparkle.specs.Words.{Words}
 use Rattle.sparkle.specs.Sparkle.{run, xors}

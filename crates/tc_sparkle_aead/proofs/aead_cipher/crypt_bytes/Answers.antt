@@ -18,7 +18,10 @@ data_in-done-requires c =
 pub returns : goal.returns
 unfolding at_point
 returns c =
-    let s = c.args in record { value = data-taken s.e s.input.now s.output.now (Ok s.n) (sym c.requires) s.n refl _
+    let s = c.args in record {
+      value = data-taken s.e s.input.now s.output.now (Ok s.n) (sym c.requires) s.n refl _
           c.begin_data-data_point.ensures _ c.begin_steps.ensures s.e.current _ c.data_in-done.ensures.value _
-          (rw c.add_steps-steps.ensures at c.at_point.ensures); output_after = data_taken_out s.e s.input.now s.output.now (Ok s.n) (sym c.requires) s.n refl _
-          c.begin_data-data_point.ensures _ c.data_in-done.ensures.output_after; }
+          (rw c.add_steps-steps.ensures at c.at_point.ensures);
+      output_after = data_taken_out s.e s.input.now s.output.now (Ok s.n) (sym c.requires) s.n refl _
+          c.begin_data-data_point.ensures _ c.data_in-done.ensures.output_after;
+    }

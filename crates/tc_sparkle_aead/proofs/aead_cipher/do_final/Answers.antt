@@ -1,11 +1,11 @@
 -- `do_final` goes by its check, and where that passes by the direction; a check that passes gives the callees their room.
--- what is known behind the check, once the direction is asked for
-use Rattle.std.proofs.Common.{sym, ◌∙◌, rules}
+use Rattle.std.proofs.Common.{sym, ◌∙◌}
 use Rattle.tc_sparkle_aead.specs.Engine.{current_key}
 use Rattle.tc_sparkle_aead.proofs.FinalLaws.{Accepted, seal-fits, final_sealed, final_sealed_out, open_fits, final_opened, final_opened_out, final_refused, final_refused_out}
 use Rattle.tc_sparkle_aead.proofs.aead_cipher.do_final.Goals as goal
 use Rattle.tc_sparkle_aead.proofs.aead_cipher.do_final.Goals.{After-opening}
 
+-- what is known behind the check, once the direction is asked for
 accepted : (c : After-opening)
     → Accepted
     c.args.e
@@ -21,7 +21,11 @@ accepted c =
 
 pub returns-in_default : goal.returns-in_default
 returns-in_default c =
-    let s = c.args in record { value = final_refused s.e s.output.now _ _ c.end_check-answer.ensures c.in_default.is; output_after = final_refused_out s.e s.output.now _ _ c.end_check-answer.ensures c.in_default.is; }
+    let s = c.args in
+    record {
+      value = final_refused s.e s.output.now _ _ c.end_check-answer.ensures c.in_default.is;
+      output_after = final_refused_out s.e s.output.now _ _ c.end_check-answer.ensures c.in_default.is;
+    }
 
 pub open_end-end-requires : goal.open_end-end-requires
 open_end-end-requires c = open_fits (accepted (goal.at.open_end-end-requires c).After-opening) c.if-opening.true
@@ -29,8 +33,11 @@ open_end-end-requires c = open_fits (accepted (goal.at.open_end-end-requires c).
 pub returns-then-opening : goal.returns-then-opening
 unfolding current_key
 returns-then-opening c =
-    let t = accepted (goal.at.returns-then-opening c).After-opening in record { value = final_opened t c.if-opening.true _ c.in-Ok.is _ c.begin_steps-first.ensures _ _
-          c.open_end-end.ensures.value _ c.finish.ensures; output_after = final_opened_out t c.if-opening.true _ c.open_end-end.ensures.output_after; }
+    let t = accepted (goal.at.returns-then-opening c).After-opening in record {
+      value = final_opened t c.if-opening.true _ c.in-Ok.is _ c.begin_steps-first.ensures _ _
+          c.open_end-end.ensures.value _ c.finish.ensures;
+      output_after = final_opened_out t c.if-opening.true _ c.open_end-end.ensures.output_after;
+    }
 
 pub seal_end-end-requires : goal.seal_end-end-requires
 seal_end-end-requires c = seal-fits (accepted (goal.at.seal_end-end-requires c).After-opening) c.if-opening.false
@@ -38,5 +45,8 @@ seal_end-end-requires c = seal-fits (accepted (goal.at.seal_end-end-requires c).
 pub returns : goal.returns
 unfolding current_key
 returns c =
-    let t = accepted (goal.at.returns c).After-opening in record { value = final_sealed t c.if-opening.false _ c.in-Ok.is _ c.begin_steps-first.ensures _ _
-          c.seal_end-end.ensures.value _ c.finish-2.ensures; output_after = final_sealed_out t c.if-opening.false _ c.seal_end-end.ensures.output_after; }
+    let t = accepted (goal.at.returns c).After-opening in record {
+      value = final_sealed t c.if-opening.false _ c.in-Ok.is _ c.begin_steps-first.ensures _ _
+          c.seal_end-end.ensures.value _ c.finish-2.ensures;
+      output_after = final_sealed_out t c.if-opening.false _ c.seal_end-end.ensures.output_after;
+    }

@@ -1,5 +1,5 @@
 -- `init` goes by its check; a start that passes has the variant's lengths.
-use Rattle.std.proofs.Common.{sym, ◌∙◌, rules}
+use Rattle.std.proofs.Common.{sym, ◌∙◌}
 use Rattle.tc_aead_cipher.proofs.CheckLaws.{start_check_lengths}
 use Rattle.tc_sparkle_aead.proofs.InitLaws.{started_by_variant, init-taken, init-refused}
 use Rattle.tc_sparkle_aead.proofs.aead_cipher.init.Goals as goal

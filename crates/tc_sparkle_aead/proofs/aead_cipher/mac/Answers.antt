@@ -1,5 +1,5 @@
 -- `mac` is the tag where it can be read.
-use Rattle.std.proofs.Common.{refl, rules}
+use Rattle.std.proofs.Common.{refl}
 use Rattle.tc_sparkle_aead.specs.Calls.{mac_of}
 use Rattle.tc_sparkle_aead.proofs.aead_cipher.mac.Goals as goal
 

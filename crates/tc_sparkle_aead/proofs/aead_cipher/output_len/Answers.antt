@@ -1,6 +1,5 @@
 -- `output_len_lem` meets its contract: it is `total_len` on the engine's fields.
 use Rattle.tc_sparkle_aead.specs.Engine.{output_len}
-use Rattle.std.proofs.Common.{rules}
 use Rattle.tc_sparkle_aead.proofs.aead_cipher.output_len.Goals as goal
 
 pub returns : goal.returns

@@ -1,6 +1,5 @@
 -- `process_aad_bytes` goes by whether there is input, and by its check.
 use Rattle.tc_sparkle_aead.proofs.HeaderLaws.{aad_empty, aad_refused, aad_taken}
-use Rattle.std.proofs.Common.{rules}
 use Rattle.tc_sparkle_aead.proofs.aead_cipher.process_aad_bytes.Goals as goal
 
 pub returns-then-input-eq0 : goal.returns-then-input-eq0

@@ -1,6 +1,5 @@
 -- `reset` drops the tag, goes where the phase says, and takes the count back.
--- the engine with another point and another tag, and its count taken back
-use Rattle.std.proofs.Common.{ap₂, rules}
+use Rattle.std.proofs.Common.{ap₂}
 use Rattle.tc_sparkle_aead.specs.declared.message.Point.{Point}
 use Rattle.tc_sparkle_aead.specs.declared.message.Mac.{Mac}
 use Rattle.tc_sparkle_aead.specs.declared.engine.SparkleEngine.{SparkleEngine}
@@ -8,6 +7,7 @@ use Rattle.tc_sparkle_aead.specs.Calls.{reset}
 use Rattle.tc_sparkle_aead.specs.Engine.{reset_steps}
 use Rattle.tc_sparkle_aead.proofs.aead_cipher.reset.Goals as goal
 
+-- the engine with another point and another tag, and its count taken back
 back : SparkleEngine → Point → Mac → SparkleEngine
 back e at mac =
     record {

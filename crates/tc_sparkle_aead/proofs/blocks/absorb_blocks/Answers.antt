@@ -1,8 +1,5 @@
 -- `absorb_blocks` takes up the blocks that have held bytes in them, then those of the input.
--- the blocks with held bytes in them
--- where the input's own blocks begin
--- some blocks have no held bytes in them
-use Rattle.std.proofs.Common.{ℕ, ◌-◌, ◌*◌, ◌<◌, ◌≤◌, false, length, refl, ap, arith, length-drop, rules}
+use Rattle.std.proofs.Common.{ℕ, ◌-◌, ◌*◌, ◌<◌, ◌≤◌, false, length, refl, ap, arith, length-drop}
 use Rattle.schwaemm.specs.Schwaemm.{absorb_block, sealing}
 use Rattle.tc_aead_cipher.specs.Variant.{params_of}
 use Rattle.tc_aead_cipher.proofs.VariantLaws.{small}
@@ -23,6 +20,7 @@ returns-then-held-eq0 c =
     stream-none c.args.variant false c.args.words c.args.buffer c.args.input.now c.args.held c.args.count c.well_formed.1.0.1.0.1 c.well_formed.1.1.0.1.0.1 c.requires.0 c.requires.1 _
     (omega (arith, c.if-held-eq0.true)) c.blocks-then-held-eq0.ensures.words_after
 
+-- the blocks with held bytes in them
 held : (c : After-held_blocks-first) → Held (params_of c.args.variant) c.args.held c.args.count c.held_blocks-first.result
 held c =
     held_first c.args.variant c.args.held c.args.count c.held_blocks-first.result c.requires.0 c.held_blocks-first.ensures
@@ -53,12 +51,14 @@ pub overflow_sub-at : goal.overflow_sub-at
 overflow_sub-at c =
     rw c.nonce_bytes.ensures ((held (goal.at.overflow_sub-at c).After-held_blocks-first).all (omega (arith, held (goal.at.overflow_sub-at c).After-held_blocks-first, c.if-first-count.false)))
 
+-- where the input's own blocks begin
 starts : (c : Else-first-count)
     → c.held_blocks-first.result * c.nonce_bytes.result - c.args.held ≤ length c.args.input.now
 starts c =
     let within : c.held_blocks-first.result * (params_of c.args.variant).rate ≤ c.args.count * (params_of c.args.variant).rate = held_within (params_of c.args.variant) c.args.held c.args.count c.held_blocks-first.result (held_first c.args.variant c.args.held c.args.count c.held_blocks-first.result c.requires.0 c.held_blocks-first.ensures) in
     rw c.nonce_bytes.ensures (omega (arith, within, c.requires))
 
+-- some blocks have no held bytes in them
 more : (c : Else-first-count) → c.held_blocks-first.result < c.args.count
 more c =
     let held : Held (params_of c.args.variant) c.args.held c.args.count c.held_blocks-first.result = held_first c.args.variant c.args.held c.args.count c.held_blocks-first.result c.requires.0 c.held_blocks-first.ensures in

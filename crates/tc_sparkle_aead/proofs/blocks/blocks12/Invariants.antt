@@ -1,12 +1,7 @@
 -- `blocks12` meets its contract: the invariant is `Run`, at the sizes of variant 2 or 3.
-use Rattle.std.proofs.Common.{◌≡◌, ℕ, cond, ltb, length, sym, ap, ◌∙◌, ap₂, ⊎_elim, arith}
-use Rattle.sparkle.specs.Sparkle.{run, xors}
-use Rattle.schwaemm.specs.Bytes.{to_bytes}
-use lib.Seq.{paste}
-use Rattle.sparkle.proofs.Arrays.{array-words}
-use Rattle.schwaemm.proofs.States.{state_length}
-use Rattle.tc_sparkle_aead.specs.Message.{put_state, wide_params, xor_block}
-use Rattle.tc_sparkle_aead.proofs.BlockRuns.{Run, sizes_wide, twelve, run-start, run-state, run-output, run_fits, length-output, run-turn}
+use Rattle.std.proofs.Common.{◌≡◌, cond, ltb}
+use Rattle.tc_sparkle_aead.specs.Message.{wide_params}
+use Rattle.tc_sparkle_aead.proofs.BlockRuns.{Run}
 use Rattle.tc_sparkle_aead.proofs.blocks.blocks12.Given as goal
 
 abbrev pub invariant-loop-left : goal.invariant-loop-left

@@ -1,6 +1,5 @@
 -- `blocks16` meets its contract: the invariant is `Run` on the state that the groups hold, at the sizes of variant 4.
--- the state that the loop begins with
-use Rattle.std.proofs.Common.{◌≡◌, cond, ltb, length, sym, refl, ap, ◌∙◌, subst, ⊎_elim, arith}
+use Rattle.std.proofs.Common.{◌≡◌, cond, length, sym, refl, ap, ◌∙◌, subst, arith}
 use Rattle.sparkle.specs.Words.{Words}
 use Rattle.sparkle.specs.Sparkle.{xors}
 use Rattle.sparkle.specs.Lanes.{joined}
@@ -11,13 +10,14 @@ use Rattle.schwaemm.proofs.Variants.{sizes256_256}
 use Rattle.schwaemm.proofs.Xors.{xors_enough}
 use Rattle.tc_sparkle_aead.specs.Message.{state_in}
 use Rattle.tc_sparkle_aead.proofs.StateLaws.{put_all, state-length, length-xor_last, words-xor_last}
-use Rattle.tc_sparkle_aead.proofs.BlockRuns.{Run, run-start, run-state, run-output, run_fits, length-output, run-turn}
+use Rattle.tc_sparkle_aead.proofs.BlockRuns.{run-start, run-state, run-output, run-turn}
 use Rattle.tc_sparkle_aead.proofs.blocks.blocks16.Goals as goal
 use Rattle.tc_sparkle_aead.proofs.blocks.blocks16.Goals.{then-big, else-big, Joined-big, After-state16-g, At-loop-left}
 
 steps-are : (c : Joined-big) → c.if-big.steps ≡ cond c.args.big 12 8
 steps-are c = elim c.if-big.branch [ then-big w ↦ rw w.if-big.true w.steps-is | else-big w ↦ rw w.if-big.false w.steps-is ]
 
+-- the state that the loop begins with
 first-length : (c : After-state16-g) → length (joined c.state16-g.result) ≡ 16
 first-length c =
     ap length c.state16-g.ensures ∙ length-xor_last schwaemm256_256 c.args.last _
@@ -47,5 +47,8 @@ loop-left-preserved c =
 pub returns : goal.returns
 returns c =
     let first = c.state16-g.ensures in
-    let done = c.loop-left-test.false in record { value = c.join.ensures ∙ rw (← first) (run-state _ _ _ _ _ _ _ _ c.loop-left.invariant.1 done)
-          ∙ sym (put_all schwaemm256_256 c.args.words _ c.well_formed.0.1.0.1); output_after = rw (← first) (run-output _ _ _ _ _ _ _ _ c.loop-left.invariant.1 done); }
+    let done = c.loop-left-test.false in record {
+      value = c.join.ensures ∙ rw (← first) (run-state _ _ _ _ _ _ _ _ c.loop-left.invariant.1 done)
+          ∙ sym (put_all schwaemm256_256 c.args.words _ c.well_formed.0.1.0.1);
+      output_after = rw (← first) (run-output _ _ _ _ _ _ _ _ c.loop-left.invariant.1 done);
+    }

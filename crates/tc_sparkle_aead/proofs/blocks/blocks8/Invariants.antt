@@ -1,10 +1,7 @@
 -- `blocks8` meets its contract: the invariant is `Run`, at the sizes of variant 1.
-use Rattle.std.proofs.Common.{◌≡◌, cond, ltb, length, refl, ap, ◌∙◌, ⊎_elim, arith}
-use Rattle.sparkle.proofs.Arrays.{array-words}
+use Rattle.std.proofs.Common.{◌≡◌, cond, ltb}
 use Rattle.schwaemm.specs.Schwaemm.{schwaemm128_128}
-use Rattle.schwaemm.proofs.Variants.{sizes128_128}
-use Rattle.tc_sparkle_aead.specs.Message.{put_state}
-use Rattle.tc_sparkle_aead.proofs.BlockRuns.{Run, run-start, run-state, run-output, run_fits, length-output, run-turn}
+use Rattle.tc_sparkle_aead.proofs.BlockRuns.{Run}
 use Rattle.tc_sparkle_aead.proofs.blocks.blocks8.Given as goal
 
 abbrev pub invariant-loop-left : goal.invariant-loop-left

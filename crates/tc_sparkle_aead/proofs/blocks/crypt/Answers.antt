@@ -1,5 +1,5 @@
 -- `crypt` is the state's bytes xored with the block's: the loop lays them over zeros.
-use Rattle.std.proofs.Common.{◌≡◌, ℕ, ◌-◌, ◌≤◌, List, length, get_or, take, sym, refl, ap, ◌∙◌, arith, length-take, get_or-take, rules}
+use Rattle.std.proofs.Common.{◌≡◌, ℕ, List, length, get_or, take, sym, refl, ap, ◌∙◌, arith, length-take, get_or-take}
 use lib.Bits.{bit_xor}
 use Rattle.sparkle.specs.Sparkle.{xors}
 use Rattle.sparkle.proofs.Lengths.{length-xors}

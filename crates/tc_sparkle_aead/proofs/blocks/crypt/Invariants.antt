@@ -1,14 +1,8 @@
 -- `crypt` is the state's bytes xored with the block's: the loop lays them over zeros.
-use Rattle.std.proofs.Common.{◌≡◌, ℕ, ◌-◌, ◌≤◌, List, length, get_or, take, sym, refl, ap, ◌∙◌, arith, length-take, get_or-take, rules}
-use lib.Bits.{bit_xor}
+use Rattle.std.proofs.Common.{◌≡◌, ◌-◌, ◌≤◌, length, take}
 use Rattle.sparkle.specs.Sparkle.{xors}
-use Rattle.sparkle.proofs.Lengths.{length-xors}
-use Rattle.schwaemm.proofs.Xors.{xors-at}
-use Rattle.tc_aead_cipher.specs.Variant.{params_of}
-use Rattle.tc_sparkle_aead.specs.Message.{zeros, in_array}
-use Rattle.tc_aead_cipher.proofs.VariantLaws.{sizes, small}
-use Rattle.tc_sparkle_aead.proofs.Fill.{laid, fill_turn, fill_end}
-use Rattle.tc_sparkle_aead.proofs.MixLaws.{crypt-in}
+use Rattle.tc_sparkle_aead.specs.Message.{zeros}
+use Rattle.tc_sparkle_aead.proofs.Fill.{laid}
 use Rattle.tc_sparkle_aead.proofs.blocks.crypt.Given as goal
 
 abbrev pub invariant-loop-i : goal.invariant-loop-i

@@ -1,21 +1,15 @@
 -- `crypt_blocks` takes up the blocks that have held bytes in them, then those of the input, and writes what they become.
--- the mask tells the direction
--- the blocks with held bytes in them
--- where the input's own blocks begin
--- some blocks have no held bytes in them
--- the output keeps its length
--- where the output behind the gathered blocks begins
--- what the output is once its lent part is back
-use Rattle.std.proofs.Common.{◌≡◌, ℕ, ◌-◌, ◌*◌, ◌<◌, ◌≤◌, false, ltb, List, ◌++◌, length, take, drop, ap, ◌∙◌, arith, length-drop, rules}
+use Rattle.std.proofs.Common.{◌≡◌, ℕ, ◌-◌, ◌*◌, ◌<◌, ◌≤◌, false, ltb, List, ◌++◌, length, take, drop, ap, ◌∙◌, arith, length-drop}
 use Rattle.schwaemm.specs.Blocks.{given}
 use Rattle.schwaemm.specs.Schwaemm.{message_block, crypt}
 use Rattle.tc_aead_cipher.specs.Variant.{params_of}
 use Rattle.tc_aead_cipher.proofs.VariantLaws.{small}
 use Rattle.tc_sparkle_aead.specs.Message.{state_in, mask_of, block_step}
-use Rattle.tc_sparkle_aead.proofs.StreamLaws.{Held, length_output_first, length_output_all, held_first, held_within, rest-bytes, lent-from, lent_back, mask-opens, mask_own, stream-none, output-none, first-state, stream-first, output-first, stream-rest, output-rest}
+use Rattle.tc_sparkle_aead.proofs.StreamLaws.{Held, length_output_first, held_first, held_within, rest-bytes, lent-from, lent_back, mask-opens, mask_own, stream-none, output-none, first-state, stream-first, output-first, stream-rest, output-rest}
 use Rattle.tc_sparkle_aead.proofs.blocks.crypt_blocks.Goals as goal
 use Rattle.tc_sparkle_aead.proofs.blocks.crypt_blocks.Goals.{After-mask-m, After-held_blocks-first, Else-first-count, After-blocks-2, After-slice_known-3-1}
 
+-- the mask tells the direction
 own : (c : After-mask-m) → c.mask-m.result ≡ mask_of (ltb 0 c.mask-m.result)
 own c = mask_own c.args.opening _ c.mask-m.ensures
 
@@ -33,8 +27,13 @@ returns-then-held-eq0 c =
     let hw = c.well_formed.1.1.0.1.0.1 in
     let hb = c.well_formed.1.1.1.0.1.0.1 in
     let done = rw (opens (goal.at.returns-then-held-eq0 c).After-mask-m) at c.blocks-then-held-eq0.ensures in
-    let none : c.args.held ≤ 0 = omega (arith, c.if-held-eq0.true) in record { value = stream-none v c.args.opening c.args.words c.args.buffer c.args.input.now c.args.held c.args.count hw hb c.requires.0 c.requires.1 _ none done.words_after; output_after = output-none v c.args.opening c.args.words c.args.buffer c.args.input.now c.args.held c.args.count hw hb c.requires.0 c.requires.1 _ _ none done.output_after; }
+    let none : c.args.held ≤ 0 = omega (arith, c.if-held-eq0.true) in
+    record {
+      value = stream-none v c.args.opening c.args.words c.args.buffer c.args.input.now c.args.held c.args.count hw hb c.requires.0 c.requires.1 _ none done.words_after;
+      output_after = output-none v c.args.opening c.args.words c.args.buffer c.args.input.now c.args.held c.args.count hw hb c.requires.0 c.requires.1 _ _ none done.output_after;
+    }
 
+-- the blocks with held bytes in them
 held : (c : After-held_blocks-first) → Held (params_of c.args.variant) c.args.held c.args.count c.held_blocks-first.result
 held c =
     held_first c.args.variant c.args.held c.args.count c.held_blocks-first.result c.requires.0 c.held_blocks-first.ensures
@@ -64,23 +63,30 @@ returns-then-first-count c =
     let first = c.held_blocks-first.result in
     let en = ap (λ (r : ℕ). first * r) c.nonce_bytes.ensures in
     let ep = c.gather-part.ensures in
-    let done = rw (opens (goal.at.returns-then-first-count c).After-mask-m) at c.blocks-2.ensures in record { value = stream-first v c.args.opening c.args.words c.args.buffer c.args.input.now c.args.held c.args.count hw hb c.requires.0 c.requires.1 first _ _ en k ep _ c.if-first-count.true done.words_after; output_after = rw c.if-first-count.true at (output-first v c.args.opening c.args.words c.args.buffer c.args.input.now c.args.held c.args.count hw hb c.requires.0 c.requires.1 first _ _ en k ep _ _ done.output_after); }
+    let done = rw (opens (goal.at.returns-then-first-count c).After-mask-m) at c.blocks-2.ensures in
+    record {
+      value = stream-first v c.args.opening c.args.words c.args.buffer c.args.input.now c.args.held c.args.count hw hb c.requires.0 c.requires.1 first _ _ en k ep _ c.if-first-count.true done.words_after;
+      output_after = rw c.if-first-count.true at (output-first v c.args.opening c.args.words c.args.buffer c.args.input.now c.args.held c.args.count hw hb c.requires.0 c.requires.1 first _ _ en k ep _ _ done.output_after);
+    }
 
 pub overflow_sub-at : goal.overflow_sub-at
 overflow_sub-at c =
     rw c.nonce_bytes.ensures ((held (goal.at.overflow_sub-at c).After-held_blocks-first).all (omega (arith, held (goal.at.overflow_sub-at c).After-held_blocks-first, c.if-first-count.false)))
 
+-- where the input's own blocks begin
 starts : (c : Else-first-count)
     → c.held_blocks-first.result * c.nonce_bytes.result - c.args.held ≤ length c.args.input.now
 starts c =
     let within : c.held_blocks-first.result * (params_of c.args.variant).rate ≤ c.args.count * (params_of c.args.variant).rate = held_within (params_of c.args.variant) c.args.held c.args.count c.held_blocks-first.result (held_first c.args.variant c.args.held c.args.count c.held_blocks-first.result c.requires.0 c.held_blocks-first.ensures) in
     rw c.nonce_bytes.ensures (omega (arith, within, c.requires))
 
+-- some blocks have no held bytes in them
 more : (c : Else-first-count) → c.held_blocks-first.result < c.args.count
 more c =
     let held : Held (params_of c.args.variant) c.args.held c.args.count c.held_blocks-first.result = held_first c.args.variant c.args.held c.args.count c.held_blocks-first.result c.requires.0 c.held_blocks-first.ensures in
     omega (arith, held, c.if-first-count.false)
 
+-- the output keeps its length
 length-first : (c : After-blocks-2) → length c.blocks-2.new.output ≡ length c.args.output.now
 length-first c =
     let opens : ltb 0 c.mask-m.result ≡ c.args.opening = mask-opens c.args.opening _ c.mask-m.ensures in
@@ -90,6 +96,7 @@ length-first c =
     (ap (λ (r : ℕ). first * r) c.nonce_bytes.ensures) held c.gather-part.ensures _ _ c.requires.2
     (rw opens at c.blocks-2.ensures.output_after)
 
+-- where the output behind the gathered blocks begins
 behind : (c : After-blocks-2) → c.held_blocks-first.result * c.nonce_bytes.result ≤ length c.blocks-2.new.output
 behind c =
     let within : c.held_blocks-first.result * (params_of c.args.variant).rate ≤ c.args.count * (params_of c.args.variant).rate = held_within (params_of c.args.variant) c.args.held c.args.count c.held_blocks-first.result (held_first c.args.variant c.args.held c.args.count c.held_blocks-first.result c.requires.0 c.held_blocks-first.ensures) in
@@ -107,6 +114,7 @@ blocks-requires-3 c =
           (omega (arith, bytes, length-first (goal.at.blocks-requires-3 c).After-blocks-2, c.requires)))),
     )
 
+-- what the output is once its lent part is back
 the-output : (c : After-slice_known-3-1)
     → take (c.held_blocks-first.result * c.nonce_bytes.result) c.blocks-2.new.output
     ++ (c.blocks-3.new.output
@@ -155,7 +163,11 @@ returns c =
     let one = rw (opens (goal.at.returns c).After-mask-m) at c.blocks-2.ensures in
     let two = rw (opens (goal.at.returns c).After-mask-m) at c.blocks-3.ensures in
     let lent = lent-from c.args.input.now _ (starts (goal.at.returns c).Else-first-count) in
-    let mid = first-state v c.args.opening c.args.words c.args.buffer c.args.input.now c.args.held c.args.count hw hb c.requires.0 c.requires.1 first _ _ en k ep _ one.words_after in record { value = stream-rest v c.args.opening c.args.words c.args.buffer c.args.input.now c.args.held c.args.count hw hb c.requires.0 c.requires.1 first _ _ en k ep (more (goal.at.returns c).Else-first-count) _ lent _ _ mid two.words_after; output_after = the-output c; }
+    let mid = first-state v c.args.opening c.args.words c.args.buffer c.args.input.now c.args.held c.args.count hw hb c.requires.0 c.requires.1 first _ _ en k ep _ one.words_after in
+    record {
+      value = stream-rest v c.args.opening c.args.words c.args.buffer c.args.input.now c.args.held c.args.count hw hb c.requires.0 c.requires.1 first _ _ en k ep (more (goal.at.returns c).Else-first-count) _ lent _ _ mid two.words_after;
+      output_after = the-output c;
+    }
 
 pub slice_bounds-blocks-count : goal.slice_bounds-blocks-count
 slice_bounds-blocks-count c = starts (goal.at.slice_bounds-blocks-count c).Else-first-count

@@ -1,5 +1,5 @@
 -- `crypt_words` xors word by word.
-use Rattle.std.proofs.Common.{ap₂, rules}
+use Rattle.std.proofs.Common.{ap₂}
 use Rattle.sparkle.specs.Sparkle.{xors}
 use Rattle.sparkle.proofs.Tab.{tabbed}
 use Rattle.tc_sparkle_aead.proofs.blocks.crypt_words.Goals as goal

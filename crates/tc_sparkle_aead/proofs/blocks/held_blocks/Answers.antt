@@ -1,6 +1,4 @@
 -- `held_blocks` rounds the held bytes up to blocks.
-use Rattle.std.proofs.Common.{arith}
-use Rattle.tc_aead_cipher.proofs.VariantLaws.{sizes, small}
 use Rattle.tc_sparkle_aead.specs.Message.{held_blocks}
 use Rattle.tc_sparkle_aead.proofs.blocks.held_blocks.Goals as goal
 

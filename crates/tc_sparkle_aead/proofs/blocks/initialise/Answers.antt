@@ -1,5 +1,5 @@
 -- `initialise` lets the state that is made of the key take up the nonce.
-use Rattle.std.proofs.Common.{refl, arith, rules}
+use Rattle.std.proofs.Common.{refl, arith}
 use Rattle.sparkle.proofs.Arrays.{array-words}
 use Rattle.tc_aead_cipher.specs.Variant.{params_of}
 use Rattle.tc_aead_cipher.proofs.VariantLaws.{sizes, small}

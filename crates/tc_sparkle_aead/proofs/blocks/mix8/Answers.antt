@@ -1,5 +1,5 @@
 -- `mix8` permutes the words that a block makes of the state.
-use Rattle.std.proofs.Common.{ap, ◌∙◌, ap₂, rules}
+use Rattle.std.proofs.Common.{ap, ◌∙◌, ap₂}
 use Rattle.sparkle.specs.Sparkle.{run, xors}
 use Rattle.sparkle.proofs.Tab.{tabbed}
 use Rattle.schwaemm.specs.Schwaemm.{schwaemm128_128, outer, inner, feistel_swap, rho1, whitening}

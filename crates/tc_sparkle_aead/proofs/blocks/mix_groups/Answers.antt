@@ -1,5 +1,5 @@
 -- `mix_groups` permutes the words that a block makes of the state, as lanes.
-use Rattle.std.proofs.Common.{ap, ◌∙◌, ap₂, rules}
+use Rattle.std.proofs.Common.{ap, ◌∙◌, ap₂}
 use lib.Bits.{bit_xor}
 use Rattle.sparkle.specs.Sparkle.{run}
 use Rattle.sparkle.specs.Lanes.{lanes2, joined}

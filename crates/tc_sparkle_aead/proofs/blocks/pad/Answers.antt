@@ -1,5 +1,5 @@
 -- `pad` meets its contract: a short block gets byte 80 before the zeros that are there.
-use Rattle.std.proofs.Common.{◌≡◌, length, take, set, sym, ap, ◌∙◌, arith, length-take-le, rules}
+use Rattle.std.proofs.Common.{◌≡◌, length, take, set, sym, ap, ◌∙◌, arith, length-take-le}
 use Rattle.schwaemm.proofs.States.{padded_full}
 use Rattle.tc_aead_cipher.specs.Variant.{params_of}
 use Rattle.tc_sparkle_aead.specs.Message.{in_array}

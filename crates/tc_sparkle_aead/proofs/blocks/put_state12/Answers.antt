@@ -1,5 +1,5 @@
 -- `put_state12` is the state before the array's other words.
-use Rattle.std.proofs.Common.{true, false, ap₂, rules}
+use Rattle.std.proofs.Common.{true, false, ap₂}
 use Rattle.sparkle.proofs.Tab.{tabbed}
 use Rattle.tc_sparkle_aead.specs.Message.{put_state, wide_params}
 use Rattle.tc_sparkle_aead.proofs.blocks.put_state12.Goals as goal

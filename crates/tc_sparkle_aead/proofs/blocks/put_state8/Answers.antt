@@ -1,5 +1,5 @@
 -- `put_state8` is the state before the array's other words.
-use Rattle.std.proofs.Common.{ap₂, rules}
+use Rattle.std.proofs.Common.{ap₂}
 use Rattle.sparkle.proofs.Tab.{tabbed}
 use Rattle.schwaemm.specs.Schwaemm.{schwaemm128_128}
 use Rattle.tc_sparkle_aead.specs.Message.{put_state}

@@ -1,5 +1,5 @@
 -- `start_256_256` lays out the words of the start.
-use Rattle.std.proofs.Common.{take, ap, rules}
+use Rattle.std.proofs.Common.{take, ap}
 use Rattle.sparkle.specs.Sparkle.{xors}
 use Rattle.sparkle.proofs.Tab.{tabbed}
 use Rattle.schwaemm.specs.Schwaemm.{schwaemm256_256, whitening}

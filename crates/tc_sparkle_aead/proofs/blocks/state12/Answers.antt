@@ -1,5 +1,5 @@
 -- `state12` is the array's first twelve words, with `last` in the last of them.
-use Rattle.std.proofs.Common.{true, false, ap, rules}
+use Rattle.std.proofs.Common.{true, false, ap}
 use Rattle.sparkle.proofs.Tab.{tabbed}
 use Rattle.tc_sparkle_aead.specs.Message.{state_in, xor_last, wide_params}
 use Rattle.tc_sparkle_aead.proofs.blocks.state12.Goals as goal

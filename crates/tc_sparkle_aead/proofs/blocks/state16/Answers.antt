@@ -1,5 +1,5 @@
 -- `state16` splits the array, with `last` in its last word, into groups.
-use Rattle.std.proofs.Common.{sym, ap, ◌∙◌, arith, take_all, rules}
+use Rattle.std.proofs.Common.{sym, ap, ◌∙◌, arith, take_all}
 use Rattle.schwaemm.specs.Schwaemm.{schwaemm256_256}
 use Rattle.tc_sparkle_aead.specs.Message.{state_in, xor_last}
 use Rattle.tc_sparkle_aead.proofs.blocks.state16.Goals as goal

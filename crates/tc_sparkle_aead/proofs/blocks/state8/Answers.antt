@@ -1,5 +1,5 @@
 -- `state8` is the array's first eight words, with `last` in the last of them.
-use Rattle.std.proofs.Common.{ap, rules}
+use Rattle.std.proofs.Common.{ap}
 use Rattle.sparkle.proofs.Tab.{tabbed}
 use Rattle.schwaemm.specs.Schwaemm.{schwaemm128_128}
 use Rattle.tc_sparkle_aead.specs.Message.{state_in, xor_last}

@@ -1,6 +1,5 @@
 -- `store12` is `store` of as many words as the rate has.
--- the state's first eight words are all that a block meets
-use Rattle.std.proofs.Common.{◌≡◌, take, ap, ◌∙◌, arith, rules}
+use Rattle.std.proofs.Common.{◌≡◌, take, ap, ◌∙◌, arith}
 use Rattle.sparkle.specs.Sparkle.{xors}
 use Rattle.sparkle.proofs.Tab.{tabbed}
 use Rattle.schwaemm.proofs.Xors.{xors_enough}
@@ -8,6 +7,7 @@ use Rattle.tc_sparkle_aead.specs.Message.{wide_params}
 use Rattle.tc_sparkle_aead.proofs.blocks.store12.Goals as goal
 use Rattle.tc_sparkle_aead.proofs.blocks.store12.Goals.{After-crypt_words-words}
 
+-- the state's first eight words are all that a block meets
 crypted : (c : After-crypt_words-words) → c.crypt_words-words.result ≡ xors c.args.state c.args.block
 crypted c =
     c.crypt_words-words.ensures

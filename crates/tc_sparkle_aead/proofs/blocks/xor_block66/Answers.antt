@@ -1,5 +1,5 @@
 -- `xor_block66` makes the words that are permuted.
-use Rattle.std.proofs.Common.{ap₂, rules}
+use Rattle.std.proofs.Common.{ap₂}
 use Rattle.sparkle.specs.Sparkle.{xors}
 use Rattle.sparkle.proofs.Tab.{tabbed}
 use Rattle.schwaemm.specs.Schwaemm.{schwaemm192_192, outer, inner, feistel_swap, rho1, whitening}

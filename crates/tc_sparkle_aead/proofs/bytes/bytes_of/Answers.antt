@@ -1,5 +1,5 @@
 -- `bytes_of` lays the bytes of all words over as many zeros.
-use Rattle.std.proofs.Common.{◌≡◌, length, replicate, refl, ◌∙◌, arith, rules}
+use Rattle.std.proofs.Common.{◌≡◌, length, replicate, refl, ◌∙◌, arith}
 use Rattle.schwaemm.specs.Bytes.{to_bytes}
 use Rattle.schwaemm.proofs.ByteWords.{length-to_bytes}
 use Rattle.tc_sparkle_aead.proofs.WordLaws.{paste_all}

@@ -1,10 +1,8 @@
 -- `gather` is n bytes of the held ones followed by the input, from `pos` on: of the input where the held bytes are all
 -- before them, else the loop lays them over zeros.
--- as many bytes are there as are asked for
-use Rattle.std.proofs.Common.{◌≡◌, ℕ, ◌-◌, ◌≤◌, List, ◌++◌, length, take, drop, sym, refl, ap, ◌∙◌, arith, length-append, length-drop, length-take, get_or-drop, get_or-take}
-use Rattle.tc_sparkle_aead.specs.Message.{zeros, in_array}
+use Rattle.std.proofs.Common.{◌≡◌, ◌++◌, length, take, drop, sym, refl, ◌∙◌, arith, length-append, length-drop, length-take, get_or-drop, get_or-take}
+use Rattle.tc_sparkle_aead.specs.Message.{zeros}
 use Rattle.tc_sparkle_aead.proofs.Fill.{laid, fill_turn, fill_end}
-use Rattle.tc_sparkle_aead.proofs.BlockRuns.{past-held}
 use Rattle.tc_sparkle_aead.proofs.bytes.gather.Goals as goal
 
 pub loop-i-init : goal.loop-i-init

@@ -1,7 +1,7 @@
 -- `in_array` lays the bytes over zeros.
-use Rattle.std.proofs.Common.{◌≡◌, ◌-◌, ◌≤◌, length, refl, arith}
+use Rattle.std.proofs.Common.{◌≡◌, ◌-◌, ◌≤◌, length}
 use Rattle.tc_sparkle_aead.specs.Message.{zeros}
-use Rattle.tc_sparkle_aead.proofs.Fill.{laid, fill_turn, fill_end}
+use Rattle.tc_sparkle_aead.proofs.Fill.{laid}
 use Rattle.tc_sparkle_aead.proofs.bytes.in_array.Given as goal
 
 abbrev pub invariant-loop-i : goal.invariant-loop-i

@@ -1,8 +1,7 @@
 -- `part` is n bytes of the slice from `at` on: the loop lays them over zeros.
--- as many bytes are there as are asked for
-use Rattle.std.proofs.Common.{◌≡◌, ◌-◌, ◌≤◌, length, take, drop, sym, refl, ◌∙◌, arith, length-drop, length-take, get_or-drop, get_or-take}
+use Rattle.std.proofs.Common.{◌≡◌, ◌-◌, ◌≤◌, take, drop}
 use Rattle.tc_sparkle_aead.specs.Message.{zeros}
-use Rattle.tc_sparkle_aead.proofs.Fill.{laid, fill_turn, fill_end}
+use Rattle.tc_sparkle_aead.proofs.Fill.{laid}
 use Rattle.tc_sparkle_aead.proofs.bytes.part.Given as goal
 
 abbrev pub invariant-loop-i : goal.invariant-loop-i

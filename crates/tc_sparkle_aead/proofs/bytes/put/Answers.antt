@@ -1,6 +1,6 @@
 -- `put` copies n bytes to the output from `pos` on: after i turns the first i stand there.
-use Rattle.std.proofs.Common.{◌≡◌, ◌-◌, ◌≤◌, length, refl, ◌∙◌, add-one, arith, length-set}
-use lib.Seq.{paste, paste-zero, paste-suc}
+use Rattle.std.proofs.Common.{◌∙◌, add-one, arith, length-set}
+use lib.Seq.{paste-suc}
 use Rattle.tc_sparkle_aead.proofs.bytes.put.Goals as goal
 
 pub loop-i-preserved : goal.loop-i-preserved

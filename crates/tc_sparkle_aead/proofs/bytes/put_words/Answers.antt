@@ -1,7 +1,5 @@
 -- `put_words` lays the bytes of n words over the output from `pos` on: after k turns those of the first k stand there.
-use Rattle.std.proofs.Common.{◌≡◌, ◌-◌, ◌*◌, ◌≤◌, length, refl, arith, length-set}
-use lib.Seq.{paste, paste-zero}
-use Rattle.schwaemm.specs.Bytes.{to_bytes}
+use Rattle.std.proofs.Common.{arith, length-set}
 use Rattle.tc_sparkle_aead.proofs.WordLaws.{paste_word}
 use Rattle.tc_sparkle_aead.proofs.bytes.put_words.Goals as goal
 

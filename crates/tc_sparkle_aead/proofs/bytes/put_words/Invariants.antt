@@ -1,8 +1,7 @@
 -- `put_words` lays the bytes of n words over the output from `pos` on: after k turns those of the first k stand there.
-use Rattle.std.proofs.Common.{◌≡◌, ◌-◌, ◌*◌, ◌≤◌, length, refl, arith, length-set}
-use lib.Seq.{paste, paste-zero}
+use Rattle.std.proofs.Common.{◌≡◌, ◌-◌, ◌*◌, ◌≤◌, length}
+use lib.Seq.{paste}
 use Rattle.schwaemm.specs.Bytes.{to_bytes}
-use Rattle.tc_sparkle_aead.proofs.WordLaws.{paste_word}
 use Rattle.tc_sparkle_aead.proofs.bytes.put_words.Given as goal
 
 abbrev pub invariant-loop-k : goal.invariant-loop-k

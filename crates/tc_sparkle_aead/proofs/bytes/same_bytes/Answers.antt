@@ -1,5 +1,5 @@
 -- `same_bytes` says whether two lists of n bytes are the same: after i turns, whether their first i bytes are.
-use Rattle.std.proofs.Common.{◌≡◌, ◌-◌, ◌≤◌, take, refl, ◌∙◌, ⊎_elim, add-one, arith}
+use Rattle.std.proofs.Common.{refl, ◌∙◌, add-one, arith}
 use Rattle.schwaemm.specs.Bytes.{same}
 use Rattle.tc_sparkle_aead.proofs.SameLaws.{same_more, same_no_more}
 use Rattle.tc_sparkle_aead.proofs.bytes.same_bytes.Goals as goal
@@ -16,7 +16,7 @@ loop-i-preserved c =
     let i = c.loop-i.i in (
       omega arith,
       elim c.if-a-i.branch [
-        then-a-i w ↦ w.equal-is ∙ rw (add-one i) (same_no_more a b i (omega arith) (omega arith) w.if-a-i.true)
+        | then-a-i w ↦ w.equal-is ∙ rw (add-one i) (same_no_more a b i (omega arith) (omega arith) w.if-a-i.true)
         | else-a-i w ↦ w.equal-is ∙ c.loop-i.invariant.1 ∙ rw (add-one i) (same_more a b i (omega arith) (omega arith) w.if-a-i.false)
       ],
     )

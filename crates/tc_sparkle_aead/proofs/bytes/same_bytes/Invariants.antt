@@ -1,7 +1,6 @@
 -- `same_bytes` says whether two lists of n bytes are the same: after i turns, whether their first i bytes are.
-use Rattle.std.proofs.Common.{◌≡◌, ◌-◌, ◌≤◌, take, refl, ◌∙◌, ⊎_elim, add-one, arith}
+use Rattle.std.proofs.Common.{◌≡◌, ◌-◌, ◌≤◌, take}
 use Rattle.schwaemm.specs.Bytes.{same}
-use Rattle.tc_sparkle_aead.proofs.SameLaws.{same_more, same_no_more}
 use Rattle.tc_sparkle_aead.proofs.bytes.same_bytes.Given as goal
 
 abbrev pub invariant-loop-i : goal.invariant-loop-i

@@ -1,5 +1,4 @@
 -- `word_in` is a word of the slice from `at` on: its four bytes, each below 2^8, so that no sum or product wraps.
-use Rattle.std.proofs.Common.{ℕ, ◌+◌, ◌*◌, ◌^◌, ◌<◌, get_or, arith, rules}
 use Rattle.tc_sparkle_aead.proofs.WordLaws.{word-from}
 use Rattle.tc_sparkle_aead.proofs.bytes.word_in.Goals as goal
 

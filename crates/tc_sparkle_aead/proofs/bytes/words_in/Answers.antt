@@ -1,6 +1,6 @@
 -- `words_in` is n words of the bytes: the loop lays them over zeros.
-use Rattle.std.proofs.Common.{◌≡◌, ◌-◌, ◌*◌, ◌≤◌, length, take, drop, refl, ap, ◌∙◌, arith, length-drop, length-take-le}
-use Rattle.schwaemm.specs.Bytes.{to_words, to_bytes}
+use Rattle.std.proofs.Common.{◌*◌, ◌≤◌, length, take, drop, refl, ap, ◌∙◌, arith, length-drop, length-take-le}
+use Rattle.schwaemm.specs.Bytes.{to_bytes}
 use Rattle.sparkle.proofs.Below.{below_of, below-take, below-drop}
 use Rattle.schwaemm.proofs.ByteWords.{to_bytes-take, to_bytes-to_words}
 use Rattle.tc_sparkle_aead.specs.Message.{zeros}

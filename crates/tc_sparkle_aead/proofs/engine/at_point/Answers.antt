@@ -1,5 +1,5 @@
 -- `at_point` changes the point and the steps, and nothing else.
-use Rattle.std.proofs.Common.{refl, rules}
+use Rattle.std.proofs.Common.{refl}
 use Rattle.tc_sparkle_aead.specs.Calls.{at_point}
 use Rattle.tc_sparkle_aead.proofs.engine.at_point.Goals as goal
 

@@ -1,5 +1,5 @@
 -- `finish` changes the point, the tag and the steps, and nothing else; the tag decides the answer.
-use Rattle.std.proofs.Common.{refl, rules}
+use Rattle.std.proofs.Common.{refl}
 use Rattle.tc_sparkle_aead.specs.Calls.{at_point, final_engine, finish}
 use Rattle.tc_sparkle_aead.proofs.engine.finish.Goals as goal
 

@@ -1,5 +1,5 @@
 -- `refused` ends the message, and keeps variant and pair.
-use Rattle.std.proofs.Common.{refl, rules}
+use Rattle.std.proofs.Common.{refl}
 use Rattle.tc_sparkle_aead.specs.Engine.{refused_steps}
 use Rattle.tc_sparkle_aead.specs.Calls.{refused}
 use Rattle.tc_sparkle_aead.proofs.engine.refused.Goals as goal

@@ -1,5 +1,5 @@
 -- `remember` puts key and nonce into their arrays.
-use Rattle.std.proofs.Common.{true, rules}
+use Rattle.std.proofs.Common.{true}
 use Rattle.tc_sparkle_aead.specs.Engine.{remember}
 use Rattle.tc_sparkle_aead.proofs.engine.remember.Goals as goal
 

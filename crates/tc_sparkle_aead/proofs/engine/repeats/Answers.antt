@@ -1,5 +1,4 @@
 -- `repeats` compares lengths, asks whether there is a pair, and then compares its parts.
--- what the two comparisons say together
 use Rattle.std.proofs.Common.{◌≡◌, Bool, false, cond, length, sym, ap, ◌∙◌, arith, rules}
 use borrow.Author.Tests.{not-true, not-false}
 use Rattle.tc_aead_cipher.specs.Variant.{params_of}
@@ -22,6 +21,7 @@ returns-then-nonce-n c =
 pub returns-then-not-pair : goal.returns-then-not-pair
 returns-then-not-pair c = repeats-none _ _ _ _ (not-true _ c.if-not-pair.true)
 
+-- what the two comparisons say together
 compared : (c : After-same_bytes-same_nonce) → cond c.same_bytes-same_key.result c.same_bytes-same_nonce.result false ≡ repeats (params_of c.args.variant) c.args.pair c.args.key.now c.args.nonce.now
 compared c =
     let s = c.args in

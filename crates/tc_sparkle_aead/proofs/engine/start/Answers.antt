@@ -1,7 +1,5 @@
 -- `start` loads the pair, absorbs the header and counts the steps.
-use Rattle.std.proofs.Common.{arith, rules}
 use Rattle.tc_sparkle_aead.specs.Engine.{new_engine}
-use Rattle.tc_aead_cipher.proofs.VariantLaws.{small}
 use Rattle.tc_sparkle_aead.proofs.InitLaws.{started-is}
 use Rattle.tc_sparkle_aead.proofs.engine.start.Goals as goal
 

@@ -1,5 +1,4 @@
 -- `absorb` takes the blocks that are ready and keeps the rest.
--- the bytes that go are at most those that there are
 use Rattle.std.proofs.Common.{◌≡◌, ◌+◌, ◌*◌, ◌≤◌, length, sym, ◌∙◌, arith, rules}
 use Rattle.tc_sparkle_aead.proofs.HeaderLaws.{absorb-none, absorb_some}
 use Rattle.tc_sparkle_aead.proofs.CallLaws.{buffered_count_bound, buffered_count_blocks, streamed-rate, gone_bound, rest_bound}
@@ -19,6 +18,7 @@ held_fits c =
       buffered_count_bound (params_of s.variant) (small s.variant) s.at.phase s.at.held,
     )
 
+-- the bytes that go are at most those that there are
 gone : (c : After-block_count-count)
     → c.block_count-count.result * (params_of c.args.variant).rate
     ≤ c.buffered_count-held.result + length c.args.header.now

@@ -1,5 +1,5 @@
 -- `after_header` takes up the last block of the header and goes to Data.
-use Rattle.std.proofs.Common.{refl, rules}
+use Rattle.std.proofs.Common.{refl}
 use Rattle.tc_sparkle_aead.specs.Message.{zeros, after_header}
 use Rattle.tc_sparkle_aead.proofs.message.after_header.Goals as goal
 

@@ -1,5 +1,4 @@
 -- `data_in` is where data leads in phase Data, and writes what its blocks become.
--- the number of blocks that the definition takes
 use Rattle.std.proofs.Common.{◌≡◌, ◌*◌, length, refl, ap₂, arith, rules}
 use Rattle.tc_aead_cipher.proofs.VariantLaws.{sizes, small}
 use Rattle.tc_sparkle_aead.proofs.DataLaws.{is-count}
@@ -11,6 +10,7 @@ use Rattle.tc_sparkle_aead.proofs.CallLaws.{buffered_count_bound, gone_bound}
 use Rattle.tc_sparkle_aead.proofs.message.data_in.Goals as goal
 use Rattle.tc_sparkle_aead.proofs.message.data_in.Goals.{After-block_count-count}
 
+-- the number of blocks that the definition takes
 block_count-is : (c : After-block_count-count)
     → c.block_count-count.result
     ≡ block_count (params_of c.args.variant)
@@ -44,4 +44,8 @@ overflow_mul-result c =
 pub returns : goal.returns
 returns c =
     let stream = c.stream_in-next in
-    let steps = ap₂ ◌*◌ (block_count-is (goal.at.returns c).After-block_count-count) c.slim_steps.ensures in record { value = λ i. record { point = stream.ensures.value i; steps = steps i }; output_after = stream.ensures.output_after; }
+    let steps = ap₂ ◌*◌ (block_count-is (goal.at.returns c).After-block_count-count) c.slim_steps.ensures in
+    record {
+      value = λ i. record { point = stream.ensures.value i; steps = steps i };
+      output_after = stream.ensures.output_after;
+    }

@@ -1,5 +1,4 @@
 -- `header_steps` is the number of blocks times the slim steps, which fits.
--- the bytes that there are
 use Rattle.std.proofs.Common.{◌≡◌, ◌+◌, ◌*◌, ◌^◌, ◌<◌, length, ap₂, arith, rules}
 use Rattle.schwaemm.specs.Schwaemm.{absorb_block}
 use Rattle.tc_aead_cipher.specs.Variant.{params_of}
@@ -10,6 +9,7 @@ use Rattle.tc_sparkle_aead.proofs.HeaderLaws.{steps_fit}
 use Rattle.tc_sparkle_aead.proofs.message.header_steps.Goals as goal
 use Rattle.tc_sparkle_aead.proofs.message.header_steps.Goals.{After-buffered_count-held}
 
+-- the bytes that there are
 total-fits : (c : After-buffered_count-held) → c.buffered_count-held.result + length c.args.header.now < 2 ^ 63 + 64
 total-fits c =
     let s = c.args in

@@ -1,6 +1,4 @@
 -- `open_end` has the last bytes, the tag and its verdict from its callees, and then writes by the verdict.
--- the held bytes end with a tag, and what is before it fits a block and the output
--- what is computed before the verdict's branch
 use Rattle.std.proofs.Common.{◌≡◌, ℕ, ◌+◌, ◌-◌, ◌≤◌, List, length, take, drop, refl, ap, ◌∙◌, arith, take-take, rules}
 use Rattle.schwaemm.specs.Bytes.{same}
 use Rattle.tc_sparkle_aead.specs.Message.{zeros}
@@ -9,6 +7,7 @@ use Rattle.tc_sparkle_aead.proofs.EndLaws.{Opening, opening-is, opened, opened_o
 use Rattle.tc_sparkle_aead.proofs.message.open_end.Goals as goal
 use Rattle.tc_sparkle_aead.proofs.message.open_end.Goals.{After-buffered_count, After-same_bytes, After-tag_bytes-size}
 
+-- the held bytes end with a tag, and what is before it fits a block and the output
 fits : (c : After-buffered_count)
     → (c.tag_bytes-size.result ≤ 32) × (c.tag_bytes-size.result ≤ c.buffered_count.result)
     × (c.buffered_count.result ≤ 64)
@@ -17,6 +16,7 @@ fits : (c : After-buffered_count)
 fits c =
     omega (arith, c.buffered_count.ensures, c.tag_bytes-size.ensures, small c.args.variant, c.requires)
 
+-- what is computed before the verdict's branch
 computed : (c : After-same_bytes)
     → Opening
     c.args.variant
@@ -52,9 +52,17 @@ computed c =
 
 pub returns-then-same_bytes : goal.returns-then-same_bytes
 returns-then-same_bytes c =
-    let o = computed (goal.at.returns-then-same_bytes c).After-same_bytes in record { value = opened o c.if-same_bytes.true; output_after = opened_out o _ _ c.if-same_bytes.true c.put.ensures; }
+    let o = computed (goal.at.returns-then-same_bytes c).After-same_bytes in
+    record {
+      value = opened o c.if-same_bytes.true;
+      output_after = opened_out o _ _ c.if-same_bytes.true c.put.ensures;
+    }
 
 pub returns : goal.returns
 unfolding zeros
 returns c =
-    let o = computed (goal.at.returns c).After-same_bytes in record { value = unopened o _ c.if-same_bytes.false c.no_mac.ensures; output_after = unopened_out o _ _ _ c.if-same_bytes.false c.put-2.ensures refl; }
+    let o = computed (goal.at.returns c).After-same_bytes in
+    record {
+      value = unopened o _ c.if-same_bytes.false c.no_mac.ensures;
+      output_after = unopened_out o _ _ _ c.if-same_bytes.false c.put-2.ensures refl;
+    }

@@ -1,6 +1,5 @@
 -- `seal_end` writes the last bytes and the tag: each part is what its callee ensures.
 use Rattle.std.proofs.Common.{◌≡◌, length, arith, rules}
-use Rattle.tc_aead_cipher.proofs.VariantLaws.{small}
 use Rattle.tc_sparkle_aead.proofs.EndLaws.{sealed, sealed_out}
 use Rattle.tc_sparkle_aead.proofs.message.seal_end.Goals as goal
 
@@ -12,7 +11,10 @@ returns c =
     let v = c.args.variant in
     let at = c.args.at in
     let key = c.args.key in
-    let held = c.buffered_count-held.ensures in record { value = sealed v at key words_long buffer-long key-long _ held _ _ c.last_words.ensures
-          c.make_tag-tag.ensures _ c.last_steps.ensures; output_after = sealed_out v at key words_long buffer-long key-long _ held _ _ c.last_words.ensures
+    let held = c.buffered_count-held.ensures in record {
+      value = sealed v at key words_long buffer-long key-long _ held _ _ c.last_words.ensures
+          c.make_tag-tag.ensures _ c.last_steps.ensures;
+      output_after = sealed_out v at key words_long buffer-long key-long _ held _ _ c.last_words.ensures
           c.make_tag-tag.ensures _ _ _ _ _ (omega (arith, held, c.requires)) c.crypt-bytes.ensures
-          c.put.ensures c.tag_bytes.ensures c.put-2.ensures; }
+          c.put.ensures c.tag_bytes.ensures c.put-2.ensures;
+    }

@@ -1,6 +1,5 @@
 -- `decrypt` writes what the packet's blocks become, and behind that what the last block becomes.
--- the bytes that are held behind the packet's blocks
-use Rattle.std.proofs.Common.{ℕ, ◌+◌, ◌-◌, ◌≤◌, length, refl, ap, arith, rules}
+use Rattle.std.proofs.Common.{ℕ, ◌+◌, ◌-◌, ◌≤◌, length, refl, ap, arith}
 use Rattle.tc_aead_cipher.specs.Variant.{params_of}
 use Rattle.tc_aead_cipher.proofs.VariantLaws.{small}
 use Rattle.tc_sparkle_aead.proofs.OpenWholeLaws.{whole_blocks_fit, whole-held, whole-written}
@@ -14,6 +13,7 @@ data-at-requires c = λ e.
     whole_blocks_fit a.variant a.key.now a.nonce.now a.header.now a.sealed.now c.requires.2 _ c.prepare-words.ensures in
     omega (arith, fits, c.requires.3)
 
+-- the bytes that are held behind the packet's blocks
 stays : (c : After-tag_bytes)
     → let p = params_of c.args.variant in
     let held = c.data-at.result.held in

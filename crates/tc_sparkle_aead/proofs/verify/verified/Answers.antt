@@ -1,6 +1,4 @@
 -- `verified` is the verdict of an opening's end, at the point after the packet's blocks.
-use Rattle.std.proofs.Common.{sym, true≢false, arith, rules}
-use Rattle.tc_aead_cipher.proofs.VariantLaws.{small}
 use Rattle.tc_sparkle_aead.proofs.OpenWholeLaws.{whole-fits, whole-verdict}
 use Rattle.tc_sparkle_aead.proofs.verify.verified.Goals as goal
 

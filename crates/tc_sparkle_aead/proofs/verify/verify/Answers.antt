@@ -1,6 +1,5 @@
 -- `verify` goes by its checks, and behind them by whether the packet is verified.
--- the checks have passed
-use Rattle.std.proofs.Common.{◌≡◌, length, ap, ◌∙◌, arith, rules}
+use Rattle.std.proofs.Common.{◌≡◌, length, ap, ◌∙◌, arith}
 use Rattle.tc_aead_cipher.specs.declared.reply.Reply.{Reply}
 use Rattle.tc_aead_cipher.specs.Variant.{params_of}
 use Rattle.tc_aead_cipher.specs.Reply.{reply_of}
@@ -17,6 +16,7 @@ returns-then-answer-ne0 c =
     (verify-refused a.variant a.key.now a.nonce.now a.header.now a.sealed.now a.room
     (omega (arith, ap (λ (r : Reply). r.number) c.packet_check-answer.ensures)))
 
+-- the checks have passed
 passed : (c : Else-answer-ne0)
     → let a = c.args in
     (reply_of (packet_check (params_of a.variant) (length a.key.now) (length a.nonce.now) (length a.sealed.now) a.room)).number ≡ 0

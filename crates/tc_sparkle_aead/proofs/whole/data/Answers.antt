@@ -1,7 +1,4 @@
 -- `data` is where the message's blocks lead from the words alone, and writes what they become where it is told to.
--- the number of blocks that go
--- the bytes that go are at most those that there are, and few enough stay
--- the output holds what they become, where it is written
 use Rattle.std.proofs.Common.{◌≡◌, ◌-◌, ◌*◌, ◌≤◌, true, length, ap, ◌∙◌, arith, rules}
 use Rattle.schwaemm.specs.Blocks.{ready}
 use Rattle.tc_aead_cipher.specs.declared.phase.Phase.TheVariants.{Data}
@@ -15,11 +12,13 @@ use Rattle.tc_sparkle_aead.proofs.WholeLaws.{count_none, data-point, data-writte
 use Rattle.tc_sparkle_aead.proofs.whole.data.Goals as goal
 use Rattle.tc_sparkle_aead.proofs.whole.data.Goals.{After-block_count-count, After-nonce_bytes}
 
+-- the number of blocks that go
 counted : (c : After-block_count-count)
     → let p = params_of c.args.variant in
     c.block_count-count.result ≡ ready p.rate (keep p (Data c.args.d)) (length c.args.input.now)
 counted c = rw c.keep.ensures at c.block_count-count.ensures
 
+-- the bytes that go are at most those that there are, and few enough stay
 gone : (c : After-nonce_bytes)
     → c.block_count-count.result * c.nonce_bytes.result ≤ length c.args.input.now
 gone c =
@@ -42,6 +41,7 @@ stays c =
       keep_bound (params_of v) (Data c.args.d),
     ))
 
+-- the output holds what they become, where it is written
 room : (c : After-block_count-count)
     → c.args.write ≡ true → c.block_count-count.result * (params_of c.args.variant).rate ≤ length c.args.output.now
 room c e =
@@ -69,6 +69,9 @@ pub returns : goal.returns
 returns c =
     let words-length : length c.args.words ≡ 16 = search rules in
     let v = c.args.variant in
-    let em = c.mask-mask.ensures ∙ ap mask_of c.opening.ensures in record { value = data-point v c.args.d c.args.words c.args.input.now _ _ em (counted (goal.at.returns c).After-block_count-count) _ c.nonce_bytes.ensures _ _
-          c.blocks-2.ensures.words_after c.part.ensures; output_after = data-written v c.args.d c.args.words c.args.input.now _ _ em (counted (goal.at.returns c).After-block_count-count) words-length c.args.write _ _
-          c.blocks-2.ensures.output_after; }
+    let em = c.mask-mask.ensures ∙ ap mask_of c.opening.ensures in record {
+      value = data-point v c.args.d c.args.words c.args.input.now _ _ em (counted (goal.at.returns c).After-block_count-count) _ c.nonce_bytes.ensures _ _
+          c.blocks-2.ensures.words_after c.part.ensures;
+      output_after = data-written v c.args.d c.args.words c.args.input.now _ _ em (counted (goal.at.returns c).After-block_count-count) words-length c.args.write _ _
+          c.blocks-2.ensures.output_after;
+    }

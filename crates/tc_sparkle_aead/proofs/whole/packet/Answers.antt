@@ -1,6 +1,5 @@
 -- `packet` goes by the check of its start, then by that of its data; what is left is the end at the point of the data.
--- the lengths that the start's check found
-use Rattle.std.proofs.Common.{◌≡◌, length, sym, ap, ◌∙◌, arith, rules}
+use Rattle.std.proofs.Common.{◌≡◌, length, sym, ap, ◌∙◌, arith}
 use Rattle.tc_aead_cipher.specs.Variant.{params_of}
 use Rattle.tc_aead_cipher.proofs.CheckLaws.{start_check_lengths}
 use Rattle.tc_sparkle_aead.specs.Packet.{PacketResult}
@@ -13,7 +12,11 @@ returns-in_default c =
     let a = c.args in
     let refused =
     whole_not_started a.variant a.d a.key.now a.nonce.now a.header.now a.input.now a.output.now _ _
-    c.tag_bytes.ensures c.start_check-start.ensures _ c.in_default.is in record { value = c.start_reply_of.ensures ∙ ap (λ (r : PacketResult). r.reply) refused; output_after = ap (λ (r : PacketResult). r.out) refused; }
+    c.tag_bytes.ensures c.start_check-start.ensures _ c.in_default.is in
+    record {
+      value = c.start_reply_of.ensures ∙ ap (λ (r : PacketResult). r.reply) refused;
+      output_after = ap (λ (r : PacketResult). r.out) refused;
+    }
 
 pub returns-in_default-answer : goal.returns-in_default-answer
 returns-in_default-answer c =
@@ -21,8 +24,13 @@ returns-in_default-answer c =
     let refused =
     whole_no_room a.variant a.d a.key.now a.nonce.now a.header.now a.input.now a.output.now _ _
     c.tag_bytes.ensures c.start_check-start.ensures c.in-Ok.is _ c.data_check-answer.ensures _
-    c.in_default-answer.is in record { value = c.reply_of.ensures ∙ ap (λ (r : PacketResult). r.reply) refused; output_after = ap (λ (r : PacketResult). r.out) refused; }
+    c.in_default-answer.is in
+    record {
+      value = c.reply_of.ensures ∙ ap (λ (r : PacketResult). r.reply) refused;
+      output_after = ap (λ (r : PacketResult). r.out) refused;
+    }
 
+-- the lengths that the start's check found
 lengths : (c : In-Ok)
     → let a = c.args in
     let p = params_of a.variant in
@@ -51,4 +59,8 @@ returns c =
     let whole =
     whole-ended a.variant a.d a.key.now a.nonce.now a.header.now a.input.now a.output.now _ _
     c.tag_bytes.ensures c.start_check-start.ensures c.in-Ok.is _ c.data_check-answer.ensures _
-    c.in-Ok-answer.is _ c.prepare-words.ensures _ c.data-at.ensures.value _ c.data-at.ensures.output_after in record { value = c.end.ensures.value ∙ ap (λ (r : PacketResult). r.reply) whole; output_after = c.end.ensures.output_after ∙ ap (λ (r : PacketResult). r.out) whole; }
+    c.in-Ok-answer.is _ c.prepare-words.ensures _ c.data-at.ensures.value _ c.data-at.ensures.output_after in
+    record {
+      value = c.end.ensures.value ∙ ap (λ (r : PacketResult). r.reply) whole;
+      output_after = c.end.ensures.output_after ∙ ap (λ (r : PacketResult). r.out) whole;
+    }

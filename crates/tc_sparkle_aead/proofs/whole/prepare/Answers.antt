@@ -1,6 +1,5 @@
 -- `prepare` is the start, and the header's blocks behind it.
--- the bytes that go are at most those that there are, and at most a block stays
-use Rattle.std.proofs.Common.{◌-◌, ◌*◌, ◌≤◌, length, sym, refl, true≢false, arith, rules}
+use Rattle.std.proofs.Common.{◌-◌, ◌*◌, ◌≤◌, length, sym, refl, true≢false, arith}
 use Rattle.tc_aead_cipher.specs.Variant.{params_of}
 use Rattle.tc_aead_cipher.proofs.VariantLaws.{sizes, small}
 use Rattle.tc_sparkle_aead.specs.Message.{mask_of}
@@ -9,6 +8,7 @@ use Rattle.tc_sparkle_aead.proofs.WholeLaws.{prepared-none, prepared_some}
 use Rattle.tc_sparkle_aead.proofs.whole.prepare.Goals as goal
 use Rattle.tc_sparkle_aead.proofs.whole.prepare.Goals.{After-nonce_bytes}
 
+-- the bytes that go are at most those that there are, and at most a block stays
 gone : (c : After-nonce_bytes)
     → c.block_count-count.result * c.nonce_bytes.result ≤ length c.args.header.now
 gone c =
