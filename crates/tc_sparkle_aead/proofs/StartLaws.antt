@@ -1,6 +1,6 @@
 -- The start in the engine's arrays: the state that is made of the key makes nonce and key of the nonce, since its feedback is
 -- its whitening and the two cancel.
-use Rattle.std.proofs.Common.{◌≡◌, ℕ, ◌+◌, ◌-◌, ◌*◌, ◌/◌, true, false, List, [], ◌∷◌, ◌++◌, length, take, drop, replicate, sym, refl, ap, ◌∙◌, ap₂, arith, length-append, length-drop, take-append-drop, length-take, length-take-le, take_all, take-take, take_at, drop_at}
+use Rattle.std.proofs.Common.{◌≡◌, ℕ, ◌-◌, ◌*◌, ◌/◌, true, false, List, [], ◌∷◌, ◌++◌, length, take, drop, replicate, sym, refl, ap, ◌∙◌, ap₂, arith, length-append, length-drop, take-append-drop, length-take, length-take-le, take_all, take-take, take_at, drop_at}
 use lib.Bits.{bit_xor, xor_comm}
 use Rattle.sparkle.specs.Words.{Words}
 use Rattle.sparkle.specs.Sparkle.{xors}

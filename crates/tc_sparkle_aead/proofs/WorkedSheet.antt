@@ -13,7 +13,7 @@ use Rattle.tc_aead_cipher.specs.Outcome.Outcome.{ok, no}
 use Rattle.tc_sparkle_aead.specs.Message.{zeros, in_array, no_message, no_mac, readable, buffered, stream, block_count, streamed, start_point, absorb_header, header_steps, after_header, without_header, last_steps, final_point}
 use Rattle.tc_sparkle_aead.specs.Engine.{no_pair, repeats, remember, no_steps, refused_steps, init_steps, reset_steps, new_engine, update_output_len, output_len}
 use Rattle.tc_sparkle_aead.specs.Calls.{add_steps, at_point, refused, started, init, process_aad_bytes, begin_data, data_in, process_bytes, process_bytes_out, do_final_out, final_engine, seal_final, do_final, reset, mac_of, steps_now}
-use Rattle.tc_sparkle_aead.specs.Sheet.{Line, step, line, lines, sheet, run_from, run}
+use Rattle.tc_sparkle_aead.specs.Sheet.{step, line, lines, sheet, run_from, run}
 use Rattle.tc_sparkle_aead.specs.Worked.{worked, every_call, row}
 
 pub worked-sheet : sheet Schwaemm128_128 worked

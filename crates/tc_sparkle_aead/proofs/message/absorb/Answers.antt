@@ -1,0 +1,63 @@
+-- `absorb` takes the blocks that are ready and keeps the rest.
+use Rattle.std.proofs.Common.{◌≡◌, ◌+◌, ◌*◌, ◌≤◌, length, sym, ◌∙◌, arith, rules}
+use Rattle.tc_sparkle_aead.proofs.HeaderLaws.{absorb-none, absorb_some}
+use Rattle.tc_sparkle_aead.proofs.CallLaws.{buffered_count_bound, buffered_count_blocks, streamed-rate, gone_bound, rest_bound}
+use Rattle.schwaemm.specs.Schwaemm.{absorb_block}
+use Rattle.tc_aead_cipher.specs.declared.phase.Phase.TheVariants.{Aad}
+use Rattle.tc_aead_cipher.specs.Variant.{params_of}
+use Rattle.tc_aead_cipher.proofs.VariantLaws.{sizes, small}
+use Rattle.tc_sparkle_aead.proofs.message.absorb.Goals as goal
+use Rattle.tc_sparkle_aead.proofs.message.absorb.Goals.{After-buffered_count-held, After-block_count-count}
+
+held_fits : (c : After-buffered_count-held) → c.buffered_count-held.result ≤ 64
+held_fits c =
+    let s = c.args in
+    omega (
+      arith,
+      c.buffered_count-held.ensures,
+      buffered_count_bound (params_of s.variant) (small s.variant) s.at.phase s.at.held,
+    )
+
+-- the bytes that go are at most those that there are
+gone : (c : After-block_count-count)
+    → c.block_count-count.result * (params_of c.args.variant).rate
+    ≤ c.buffered_count-held.result + length c.args.header.now
+gone c =
+    gone_bound (params_of c.args.variant).rate 0 _ _
+    c.block_count-count.ensures
+
+pub absorb_blocks-next-requires : goal.absorb_blocks-next-requires
+absorb_blocks-next-requires c =
+    let s = c.args in
+    (omega (arith, c.buffered_count-held.ensures, buffered_count_blocks (params_of s.variant) s.at.phase s.at.held), gone c)
+
+pub overflow_mul-gone : goal.overflow_mul-gone
+overflow_mul-gone c = rw c.nonce_bytes.ensures (omega (arith, gone (goal.at.overflow_mul-gone c).After-block_count-count, held_fits (goal.at.overflow_mul-gone c).After-buffered_count-held))
+
+pub overflow_sub-rest : goal.overflow_sub-rest
+overflow_sub-rest c = rw c.nonce_bytes.ensures (gone (goal.at.overflow_sub-rest c).After-block_count-count)
+
+pub gather-requires : goal.gather-requires
+gather-requires c =
+    let v = c.args.variant in
+    rw c.nonce_bytes.ensures (
+      held_fits (goal.at.gather-requires c).After-buffered_count-held,
+      omega (
+        arith,
+        rest_bound (params_of v).rate 0 _ _ (sizes v).rate_positive c.block_count-count.ensures,
+        small v,
+      ),
+      omega (arith, gone (goal.at.gather-requires c).After-block_count-count),
+    )
+
+pub returns-then-header-eq0 : goal.returns-then-header-eq0
+returns-then-header-eq0 c = sym (absorb-none _ _ _ _ c.if-header-eq0.true)
+
+pub returns : goal.returns
+returns c =
+    let buffer-length : length c.args.at.buffer ≡ 64 = search rules in
+    let v = c.args.variant in
+    streamed-rate (params_of v) (small v) 0 (absorb_block (params_of v)) (Aad c.args.d) c.args.at c.args.header.now
+    buffer-length _ c.buffered_count-held.ensures _ c.block_count-count.ensures _ c.nonce_bytes.ensures _ _
+    c.absorb_blocks-next.ensures c.gather.ensures
+    ∙ sym (absorb_some (params_of v) c.args.d c.args.at c.args.header.now (omega arith))
