@@ -1,6 +1,9 @@
 -- What holds in a loop over blocks, at each of the three sizes: the blocks that are done are `count - left`, they have led
 -- to the state, and the output begins with what they became where it is written.
-use Rattle.std.proofs.Common.{◌≡◌, ℕ, ◌+◌, ◌-◌, ◌*◌, ◌/◌, ◌<◌, ◌≤◌, Bool, true, false, cond, eqb, List, ◌++◌, length, take, drop, sym, refl, ap, ◌∙◌, subst, ap₂, append-nil, mul-le-mul_right, add-mul, one-mul, zero-mul, arith, length-append, length-drop, length-take-le, drop-drop, take_at, drop_at}
+use Rattle.std.proofs.Common.{◌≡◌, ℕ, ◌+◌, ◌-◌, ◌*◌, ◌/◌, ◌<◌, ◌≤◌, Bool, true, false, cond, eqb, List, [], ◌∷◌, ◌++◌, length, take, drop, sym, refl, ap, ◌∙◌, subst, ap₂, inl, inr, append-nil, mul-le-mul_right, add-mul, one-mul, zero-mul, arith, length-append, length-drop, length-take-le, drop-drop, take_at, drop_at}
+use types.Run.{OneOf}
+use denote.Enum.Declared.{tag_of}
+use Rattle.tc_aead_cipher.specs.contracts.variant.SparkleVariant.{the_type}
 use lib.Seq.{drop-append-add, paste}
 use Rattle.sparkle.specs.Words.{Words}
 use Rattle.sparkle.specs.Sparkle.{run, xors}
@@ -75,13 +78,23 @@ sizes_wide true = sizes256_128
 sizes_wide false = sizes192_192
 
 -- a variant that is neither the first nor the last; r is its rate
-pub wide_variant : (v : SparkleVariant) → (v ≡ Schwaemm128_128 → ⊥) → (v ≡ Schwaemm256_256 → ⊥) → (r : ℕ) → r ≡ (params_of v).rate
+pub wide_variant : (v : SparkleVariant) → OneOf (1 ∷ (2 ∷ [])) (tag_of the_type v) → (r : ℕ) → r ≡ (params_of v).rate
     → wide_params (eqb r 32) ≡ params_of v
 unfolding wide_params
-wide_variant Schwaemm128_128 h g r e = absurd (h refl)
-wide_variant Schwaemm256_128 h g r e = ap (λ (n : ℕ). wide_params (eqb n 32)) e
-wide_variant Schwaemm192_192 h g r e = ap (λ (n : ℕ). wide_params (eqb n 32)) e
-wide_variant Schwaemm256_256 h g r e = absurd (g refl)
+wide_variant Schwaemm128_128 (inl h) r e = absurd (omega arith)
+wide_variant Schwaemm128_128 (inr h) r e = absurd (omega arith)
+wide_variant Schwaemm256_128 h r e = ap (λ (n : ℕ). wide_params (eqb n 32)) e
+wide_variant Schwaemm192_192 h r e = ap (λ (n : ℕ). wide_params (eqb n 32)) e
+wide_variant Schwaemm256_256 (inl h) r e = absurd (omega arith)
+wide_variant Schwaemm256_256 (inr h) r e = absurd (omega arith)
+
+-- the same, where the two are told apart by their names
+pub wide_of_the_others : (v : SparkleVariant) → (v ≡ Schwaemm128_128 → ⊥) → (v ≡ Schwaemm256_256 → ⊥) → (r : ℕ) → r ≡ (params_of v).rate
+    → wide_params (eqb r 32) ≡ params_of v
+wide_of_the_others Schwaemm128_128 h g r e = absurd (h refl)
+wide_of_the_others Schwaemm256_128 h g r e = wide_variant Schwaemm256_128 (inl refl) r e
+wide_of_the_others Schwaemm192_192 h g r e = wide_variant Schwaemm192_192 (inr refl) r e
+wide_of_the_others Schwaemm256_256 h g r e = absurd (g refl)
 
 pub record Twelve (p : Params) : Type 0 where
   pub rate : p.rate / 4 ≤ 8
