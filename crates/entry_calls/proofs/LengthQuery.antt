@@ -1,7 +1,7 @@
 -- Every query that takes a lent engine and a length, `fn f(e: &SparkleEngine, n: usize) -> AeadResult { g(*e, n) }`: one
 -- walk of its MIR, for any function g by value, as that of Query with a number more.
 --     ended, clauses, function     what such a query's contract and code are, of which each query is an instance
---     length-query                 such a query, whose g answers `answer` of its engine and n, answers `answer` of the lent engine and n,
+--     length_query                 such a query, whose g answers `answer` of its engine and n, answers `answer` of the lent engine and n,
 --                                  whatever form its own clause `c` has, where that is the same
 -- Assumes nothing.
 use types.Logic.{Logic}

@@ -4,7 +4,7 @@
 --     closed       the cell holds another engine: the borrow is closed at it
 --     looked       the engine's `&` is looked into: a share of its cell, with the engine's machine value; `shuts` ends it
 --     lends, back      an engine in a local is lent by `&mut` for a lifetime that the walk makes, and comes back with its last value
---     shows-to, shown  the same by `&`, and it comes back as it was
+--     shows_to, shown  the same by `&`, and it comes back as it was
 --     meets        a function whose walk is done at every choice of lifetimes, shares and arguments meets its contract
 -- Assumes `Logic`.
 pub use mathlib.Core.Path.{◌≡◌, refl}

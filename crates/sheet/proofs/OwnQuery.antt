@@ -1,7 +1,7 @@
 -- Every query of an engine by value that lends it, `fn f(e: SparkleEngine) -> T { g(&e) }`: one walk of its MIR, for any type
 -- T and any query g over a lent engine. The engine is copied to a local and lent for a lifetime that the walk makes, and
 -- comes back as it was. Of g the proof knows only that it meets its contract.
---     own-query    such a query, whose g answers `answer` of the lent engine, answers `answer` of its engine
+--     own_query    such a query, whose g answers `answer` of the lent engine, answers `answer` of its engine
 -- Assumes nothing.
 use types.Logic.{Logic}
 use denote.Ref.{Bor}
