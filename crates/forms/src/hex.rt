@@ -6,6 +6,7 @@ use super::bytes;
 use super::bytes::ByteKind;
 
 // Whether the bytes are a hexadecimal string.
+#[tactic(auto, unfolding(crate::specs::Hex::is_hex))]
 pub fn is_hex(s: &[u8]) -> bool
     ensures { result ≡ is_hex s.now }
 {
