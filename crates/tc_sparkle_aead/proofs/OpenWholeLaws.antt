@@ -10,6 +10,7 @@ use Rattle.schwaemm.proofs.RoundTrip.{length_crypted_blocks, length-decrypt, lea
 use Rattle.tc_aead_cipher.specs.declared.variant.SparkleVariant.{SparkleVariant}
 use Rattle.tc_aead_cipher.specs.declared.phase.Direction.TheVariants.{Decrypt}
 use Rattle.tc_aead_cipher.specs.declared.phase.Phase.TheVariants.{Data}
+use Rattle.tc_aead_cipher.specs.declared.reply.Reply.{Reply}
 use Rattle.tc_aead_cipher.specs.Variant.{params_of}
 use Rattle.tc_aead_cipher.specs.Checks.{keep}
 use Rattle.tc_aead_cipher.specs.Outcome.{Outcome}
@@ -97,6 +98,18 @@ module _ (v : SparkleVariant) (key nonce header packet : List ℕ) (room : ℕ) 
 
     pub verify_wrong : right ≡ false → Outcome.no (6 ∷ []) ≡ verify v key nonce header packet room
     verify_wrong t = sym (verify-by _ false count-is (sym er ∙ t))
+
+  -- the verifying pass behind its checks, as replies: what it answers where the packet is verified, and where it is not
+  module _ (answer : Reply) (checks : answer ≡ reply_of lengths) (passes : answer.number ≡ 0) where
+    checks_passed : number_of lengths ≡ 0
+    checks_passed = omega (arith, ap (λ (r : Reply). r.number) checks)
+
+    pub reply_verified : verified (params_of v) key nonce header packet ≡ true → answer ≡ reply_of (verify v key nonce header packet room)
+    reply_verified t = checks ∙ ap reply_of (verify_right checks_passed _ refl t)
+
+    pub reply_unverified : verified (params_of v) key nonce header packet ≡ false → (other : Reply) → other ≡ reply_of (Outcome.no (6 ∷ []))
+        → other ≡ reply_of (verify v key nonce header packet room)
+    reply_unverified f other e = e ∙ ap reply_of (verify_wrong checks_passed _ refl f)
 
   -- a packet is opened, or refused by a number
   data Verified : Type 0 where

@@ -42,6 +42,7 @@ pub fn init(
 }
 
 // Adds associated data to the message.
+#[tactic(auto, using(crate::proofs::HeaderLaws::aad_empty, crate::proofs::HeaderLaws::aad_refused, crate::proofs::HeaderLaws::aad_taken))]
 pub fn process_aad_bytes(e: SparkleEngine, input: &[u8]) -> Done
     ensures { result ≡ process_aad_bytes e input.now }
 {

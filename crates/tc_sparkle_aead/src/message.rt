@@ -272,6 +272,7 @@ pub(crate) fn start_point(variant: SparkleVariant, d: Direction, key: &[u8], non
 // ---- the end
 
 // The words after the last block, n bytes of the buffer: as they were, where there is none.
+#[tactic(auto, using(crate::proofs::EndLaws::put_last_none, crate::proofs::EndLaws::put_last_some, tc_aead_cipher::proofs::VariantLaws::small))]
 fn last_words(variant: SparkleVariant, words: [u32; 16], buffer: [u8; 64], n: usize) -> [u32; 16]
     requires { n ≤ (params_of variant).rate }
     ensures { result ≡ put_state (params_of variant) words (last_state (params_of variant) (state_in (params_of variant) words) (take n buffer) (take n buffer)) }

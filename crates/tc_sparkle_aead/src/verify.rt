@@ -53,6 +53,7 @@ fn decrypt(
 
 // The verifying pass: the checks of a packet for which there would be `room`, and whether it is
 // verified. It writes nothing.
+#[tactic(auto, using(crate::proofs::OpenWholeLaws::reply_verified, crate::proofs::OpenWholeLaws::reply_unverified))]
 pub fn verify(
     variant: SparkleVariant,
     key: &[u8],

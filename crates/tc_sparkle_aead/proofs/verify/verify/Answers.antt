@@ -4,7 +4,7 @@ use Rattle.tc_aead_cipher.specs.declared.reply.Reply.{Reply}
 use Rattle.tc_aead_cipher.specs.Variant.{params_of}
 use Rattle.tc_aead_cipher.specs.Reply.{reply_of}
 use Rattle.tc_aead_cipher.specs.PacketCheck.{packet_check}
-use Rattle.tc_sparkle_aead.proofs.OpenWholeLaws.{sized, verify-refused, verify_right, verify_wrong}
+use Rattle.tc_sparkle_aead.proofs.OpenWholeLaws.{sized, verify-refused}
 use Rattle.tc_sparkle_aead.proofs.verify.verify.Goals as goal
 use Rattle.tc_sparkle_aead.proofs.verify.verify.Goals.{Else-answer-ne0}
 
@@ -27,19 +27,3 @@ verified-requires c =
     let a = c.args in
     let s = sized a.variant (length a.key.now) (length a.nonce.now) (length a.sealed.now) a.room (passed (goal.at.verified-requires c).Else-answer-ne0) in
     (s.key_right, s.nonce_right, s.enough)
-
-pub returns-then-verified : goal.returns-then-verified
-returns-then-verified c =
-    let a = c.args in
-    c.packet_check-answer.ensures
-    ∙ ap reply_of
-    (verify_right a.variant a.key.now a.nonce.now a.header.now a.sealed.now a.room (passed (goal.at.returns-then-verified c).Else-answer-ne0) _
-    c.verified.ensures c.if-verified.true)
-
-pub returns : goal.returns
-returns c =
-    let a = c.args in
-    c.refusal.ensures
-    ∙ ap reply_of
-    (verify_wrong a.variant a.key.now a.nonce.now a.header.now a.sealed.now a.room (passed (goal.at.returns c).Else-answer-ne0) _
-    c.verified.ensures c.if-verified.false)
