@@ -53,19 +53,19 @@ module _ (e : SparkleEngine) (kind : CallKind) (n : ℕ) (first second third out
       → after ≡ data_or_end_out e kind first out → (r : Called) → r ≡ done_call d → Gives e kind n first second third out after r
   unfolding called output_after step data_or_end data_or_end_out
   data_or_end_gives not-Init not-Aad not-Reset not-Mac not-Update not-Output d ed after ea r er =
-      by_kind kind not-Init not-Aad not-Reset not-Mac not-Update not-Output ed ea
+      of_kind kind not-Init not-Aad not-Reset not-Mac not-Update not-Output ed ea
     where
-      by_kind : (k : CallKind) → ((x : Direction) → k ≡ Init x → ⊥) → (k ≡ Aad → ⊥) → (k ≡ Reset → ⊥) → (k ≡ Mac → ⊥)
+      of_kind : (k : CallKind) → ((x : Direction) → k ≡ Init x → ⊥) → (k ≡ Aad → ⊥) → (k ≡ Reset → ⊥) → (k ≡ Mac → ⊥)
           → (k ≡ Update → ⊥) → (k ≡ Output → ⊥) → d ≡ data_or_end e k first out → after ≡ data_or_end_out e k first out
           → Gives e k n first second third out after r
-      by_kind Data not-Init not-Aad not-Reset not-Mac not-Update not-Output ed ea = record { value = er ∙ ap done_call ed; output_after = ea }
-      by_kind Final not-Init not-Aad not-Reset not-Mac not-Update not-Output ed ea = record { value = er ∙ ap done_call ed; output_after = ea }
-      by_kind (Init x) not-Init not-Aad not-Reset not-Mac not-Update not-Output ed ea = absurd (not-Init x refl)
-      by_kind Aad not-Init not-Aad not-Reset not-Mac not-Update not-Output ed ea = absurd (not-Aad refl)
-      by_kind Reset not-Init not-Aad not-Reset not-Mac not-Update not-Output ed ea = absurd (not-Reset refl)
-      by_kind Mac not-Init not-Aad not-Reset not-Mac not-Update not-Output ed ea = absurd (not-Mac refl)
-      by_kind Update not-Init not-Aad not-Reset not-Mac not-Update not-Output ed ea = absurd (not-Update refl)
-      by_kind Output not-Init not-Aad not-Reset not-Mac not-Update not-Output ed ea = absurd (not-Output refl)
+      of_kind Data not-Init not-Aad not-Reset not-Mac not-Update not-Output ed ea = record { value = er ∙ ap done_call ed; output_after = ea }
+      of_kind Final not-Init not-Aad not-Reset not-Mac not-Update not-Output ed ea = record { value = er ∙ ap done_call ed; output_after = ea }
+      of_kind (Init x) not-Init not-Aad not-Reset not-Mac not-Update not-Output ed ea = absurd (not-Init x refl)
+      of_kind Aad not-Init not-Aad not-Reset not-Mac not-Update not-Output ed ea = absurd (not-Aad refl)
+      of_kind Reset not-Init not-Aad not-Reset not-Mac not-Update not-Output ed ea = absurd (not-Reset refl)
+      of_kind Mac not-Init not-Aad not-Reset not-Mac not-Update not-Output ed ea = absurd (not-Mac refl)
+      of_kind Update not-Init not-Aad not-Reset not-Mac not-Update not-Output ed ea = absurd (not-Update refl)
+      of_kind Output not-Init not-Aad not-Reset not-Mac not-Update not-Output ed ea = absurd (not-Output refl)
 
   pub reset-gives : kind ≡ Reset → (reply : Reply) → reply ≡ reply_of (ok 0) → (next : SparkleEngine)
       → next ≡ resetEngine e → Gives e kind n first second third out out (record { reply = reply; engine = next })
@@ -91,26 +91,40 @@ module _ (e : SparkleEngine) (kind : CallKind) (n : ℕ) (first second third out
   output-gives is a ea reply er =
       rw is (record { value = ap (λ (x : Reply). record { reply = x; engine = e }) (er ∙ ap (λ (x : AeadResult). reply_of (outcome x)) ea); output_after = refl })
 
--- `data_or_end` by its kind
-abbrev pub Ends : SparkleEngine → CallKind → (input out : List ℕ) → Done → List ℕ → Type 0
-Ends e kind input out d after = record {
-  value : d ≡ data_or_end e kind input out;
-  output_after : after ≡ data_or_end_out e kind input out;
-}
+-- `data_or_end` is the data call of data, and the end of every other kind
+pub by_data : (e : SparkleEngine) (kind : CallKind) (input out : List ℕ) → kind ≡ Data
+    → data_or_end e kind input out ≡ process_bytes e input out
+unfolding data_or_end
+by_data e kind input out is = rw is refl
 
-pub by-data : (e : SparkleEngine) (kind : CallKind) (input out : List ℕ) (d : Done) (after : List ℕ) → kind ≡ Data
-    → d ≡ process_bytes e input out → after ≡ process_bytes_out e input out → Ends e kind input out d after
-unfolding data_or_end data_or_end_out
-by-data e kind input out d after is ed ea = rw is (record { value = ed; output_after = ea })
+pub by_data_out : (e : SparkleEngine) (kind : CallKind) (input out : List ℕ) → kind ≡ Data
+    → data_or_end_out e kind input out ≡ process_bytes_out e input out
+unfolding data_or_end_out
+by_data_out e kind input out is = rw is refl
 
-pub by_end : (e : SparkleEngine) (kind : CallKind) (input out : List ℕ) (d : Done) (after : List ℕ) → (kind ≡ Data → ⊥)
-    → d ≡ do_final e out → after ≡ do_final_out e out → Ends e kind input out d after
-unfolding data_or_end data_or_end_out
-by_end e (Init x) input out d after not ed ea = record { value = ed; output_after = ea }
-by_end e Aad input out d after not ed ea = record { value = ed; output_after = ea }
-by_end e Final input out d after not ed ea = record { value = ed; output_after = ea }
-by_end e Reset input out d after not ed ea = record { value = ed; output_after = ea }
-by_end e Mac input out d after not ed ea = record { value = ed; output_after = ea }
-by_end e Update input out d after not ed ea = record { value = ed; output_after = ea }
-by_end e Output input out d after not ed ea = record { value = ed; output_after = ea }
-by_end e Data input out d after not ed ea = absurd (not refl)
+pub by_end : (e : SparkleEngine) (kind : CallKind) (input out : List ℕ) → (kind ≡ Data → ⊥)
+    → data_or_end e kind input out ≡ do_final e out
+unfolding data_or_end
+by_end e (Init x) input out not = refl
+by_end e Aad input out not = refl
+by_end e Final input out not = refl
+by_end e Reset input out not = refl
+by_end e Mac input out not = refl
+by_end e Update input out not = refl
+by_end e Output input out not = refl
+by_end e Data input out not = absurd (not refl)
+
+pub by_end_out : (e : SparkleEngine) (kind : CallKind) (input out : List ℕ) → (kind ≡ Data → ⊥)
+    → data_or_end_out e kind input out ≡ do_final_out e out
+unfolding data_or_end_out
+by_end_out e (Init x) input out not = refl
+by_end_out e Aad input out not = refl
+by_end_out e Final input out not = refl
+by_end_out e Reset input out not = refl
+by_end_out e Mac input out not = refl
+by_end_out e Update input out not = refl
+by_end_out e Output input out not = refl
+by_end_out e Data input out not = absurd (not refl)
+
+-- which of the two a call of `data_or_end` is
+pub ruleset by_kind = (by_data, by_data_out, by_end, by_end_out)
