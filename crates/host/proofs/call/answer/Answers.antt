@@ -1,7 +1,5 @@
 -- What is lent goes behind the head, then the call, the tag and the head.
-use Prim.Native.Nat.{◌+◌, ◌≤◌}
 use native.Mathlib.Omega.{arith}
-use lib.ListN.{length}
 use Rattle.host.proofs.AnswerLaws.{lent_fits, length_pasted, length_back, answer-is}
 use Rattle.host.proofs.call.answer.Goals as goal
 

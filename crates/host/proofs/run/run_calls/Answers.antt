@@ -1,14 +1,14 @@
 -- The loop keeps `Walking`: each turn is `walk_turn`, each way out one of `walk_end`, `walk_malformed`, `walk_no_room`.
 use mathlib.Core.Path.{◌≡◌, sym, ap, ap₂, ◌∙◌}
 use mathlib.Core.Bool.{true}
-use Prim.Native.Nat.{ℕ, ◌+◌, ◌-◌, ◌≤◌, ◌<◌}
+use Prim.Native.Nat.{ℕ, ◌+◌, ◌-◌, ◌≤◌}
 use native.Mathlib.Omega.{arith}
 use borrow.Author.Tests.{leb-true}
 use lib.Dec.{leb}
 use lib.ListN.{length, drop, length-take, length-drop}
 use Rattle.host.specs.declared.call.Read.TheVariants.{Call}
-use Rattle.host.specs.CallList.{read_of, run_calls, shown_length}
-use Rattle.host.proofs.RunLaws.{Walking, from_place, walk_start, walk_end, walk_malformed, walk_no_room, walk_code, call_within}
+use Rattle.host.specs.CallList.{read_of, shown_length}
+use Rattle.host.proofs.RunLaws.{from_place, walk_start, walk_end, walk_malformed, walk_no_room, walk_code, call_within}
 use Rattle.host.proofs.run.run_calls.Goals as goal
 use Rattle.host.proofs.run.run_calls.Goals.{In-Call}
 
