@@ -180,6 +180,11 @@ pub stopped-at : (file : List ℕ) (e : SparkleEngine) {x : Shown} → x ≡ sto
 unfolding stopped
 stopped-at file e = ap (λ (x : Shown). x.run.at)
 
+-- a run that stops is at the end of the file
+pub stopped_place : (file : List ℕ) (e : SparkleEngine) → (stopped file e).run.at ≡ length file
+unfolding stopped
+stopped_place file e = refl
+
 module _ (file : List ℕ) (r : Run) where
   pub next_long : 65536 < length file → next_of file r ≡ stopped file r.engine
   unfolding next_of

@@ -71,6 +71,7 @@ fn number_in(item: &[u8]) -> usize
 }
 
 // Whether an item can stand at a shape's mark: bytes at `#`, a number at `%`.
+#[tactic(auto, unfolding(crate::specs::Line::fits))]
 fn fits(mark: u8, item: &[u8]) -> bool
     ensures { result ≡ fits mark item.now }
 {

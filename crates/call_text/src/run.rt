@@ -145,6 +145,7 @@ pub fn begin(file: &[u8]) -> Shown
 // Makes the call of the line where the run stands: the sheet's line, and the run behind it. Where no
 // call stands there, an empty text, and the run at the file's end. It does not look at the lines
 // before; whoever starts from `begin` runs nothing of a file that is refused.
+#[tactic(auto, using(crate::proofs::RunSteps::next_long, crate::proofs::RunSteps::stopped_place))]
 pub fn next(file: &[u8], run: Run) -> Shown
     ensures value { result ≡ next_of file.now run }
     ensures at_lt_at { run.at < length file.now → run.at < result.run.at }

@@ -3,17 +3,8 @@ use Rattle.std.proofs.Common.{length, sym, ap, ◌∙◌, arith}
 use borrow.Author.Tests.{not-true, not-false}
 use Rattle.call_text.specs.declared.line.Found.{Found}
 use Rattle.call_text.proofs.ListSteps.{line-length, end_further}
-use Rattle.call_text.proofs.RunSteps.{found_room, stopped-at, next_long, next_none, next_found}
+use Rattle.call_text.proofs.RunSteps.{found_room, stopped-at, next_none, next_found}
 use Rattle.call_text.proofs.run.next.Goals as goal
-
-pub returns-then-file-gt65536 : goal.returns-then-file-gt65536
-returns-then-file-gt65536 c =
-    let a = c.args in
-    let e = c.stopped.ensures in
-    record {
-      value = e ∙ sym (next_long a.file.now a.run c.if-file-gt65536.true);
-      at_lt_at = λ h. omega (arith, stopped-at a.file.now _ e);
-    }
 
 pub returns-then-not-f : goal.returns-then-not-f
 returns-then-not-f c =
