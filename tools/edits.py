@@ -6,9 +6,10 @@ An edit is a file crates/CRATE/edits/NAME.edit in the form of `rt`: a line "file
 in any crate. A line "refused: PLACE PLACE .." names the places where its fact is looked at. A place is a function
 of the crate, as engine/open_end, or a law, as EndLaws:unopened: the file in proofs/ and the law's name. Where it is
 a law, a line "fails: .." says a value at which the law is false under the edit. The last step of a function's proof
-is not looked at while a function below it is not proved: where the edit's error stands there, a line
-"apart: callees" keeps the edit out of bundles that reach one.
+is not looked at while a function below it is not proved, nor a law while one that its proof cites is not: where the
+edit's error stands there, a line "apart: callees" keeps the edit out of bundles that reach one of these.
 """
+import functools
 import glob
 import itertools
 import os
@@ -84,6 +85,7 @@ class Crate:
     def __init__(self, name):
         self.name, self.files, self.functions = name, {}, {}
         self.definitions, self.renamed = {}, {}
+        self.proofs = {}  # a law's place -> its statement and its proof
         self.owners = {}  # (file, line) -> what a change of that line changes
         for part in ("src", "specs", "proofs"):
             for path in sorted(glob.glob(f"crates/{name}/{part}/**/*", recursive=True)):
@@ -134,6 +136,10 @@ class Crate:
                 names = [name.strip("«»◌") for name in (declared.group(1) or declared.group(2)).split()]
                 around.append((depth, names, path.startswith("specs/") or bool(MARKED.match(line))))
             self.owners[path, number] = [("definition", name) for _, names, _ in around for name in names]
+            for _, names, _ in around if path.startswith("proofs/") else ():
+                for name in names:
+                    place = path.removeprefix("proofs/").removesuffix(".antt") + ":" + name
+                    self.proofs[place] = self.proofs.get(place, "") + line + "\n"
             for _, names, definition in around:
                 for name in names if definition else ():
                     self.definitions[name] = self.definitions.get(name, "") + line + "\n"
@@ -172,10 +178,24 @@ class Crate:
         return words(self.functions[place]["contract"]) - self.functions[place]["others"]
 
     def called(self, place):
-        """The functions that one calls, by the last part of their names."""
+        """The functions that one calls, by the last part of their names; of a law, the laws that its proof cites."""
+        if ":" in place:
+            return self.laws_cited(place)
         names = words(self.functions[place]["body"], fields=True)
         return {other for other in self.functions if other != place and other.split("/")[-1] in names}
 
+    def laws_cited(self, place):
+        """The laws that a law's proof cites: those of its own file, and those that the file imports."""
+        file, names = place.split(":")[0], words(self.proofs.get(place, ""))
+        imported = {
+            f"{other}:{name.strip()}"
+            for other, group in re.findall(rf"Rattle\.{self.name}\.proofs\.(\w+)\.\{{([^}}]*)\}}", self.files.get(f"proofs/{file}.antt", ""))
+            for name in group.split(",")
+        }
+        near = {other for other in self.proofs if other in imported or other.startswith(file + ":")}
+        return {other for other in near if other != place and other.split(":")[1] in names}
+
+    @functools.cache
     def speaks_of(self, place):
         """What the statement at a place depends on: definitions, and for a function its body and contract and the
         contracts of what it calls. None where there is no such place."""
@@ -189,8 +209,9 @@ class Crate:
         found = {("body", place), ("contract", place), *(("contract", other) for other in called)}
         return found | self.leads_to(names) | {("file", path) for path in self.files if path.endswith(".rt")}
 
+    @functools.cache
     def below(self, place):
-        """The functions that one calls, those that these call, and so on."""
+        """The functions that one calls, those that these call, and so on; of a law, the laws that it rests on."""
         todo, seen = self.called(place), set()
         while todo:
             seen.add(one := todo.pop())
