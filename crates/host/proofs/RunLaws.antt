@@ -18,7 +18,7 @@ use Rattle.host.specs.declared.call.Head.{Head}
 use Rattle.host.specs.declared.call.Read.{Read}
 use Rattle.host.specs.declared.call.Read.TheVariants.{Malformed, Call as ReadCall}
 use Rattle.host.specs.declared.run.Stop.{Stop}
-use Rattle.host.specs.CallList.{head_of, call_length, well_formed_lem, read_of, call_in, shown_length, answer_of, Ran, stopped, answered, run_calls, calls_in, answers_of, run_list}
+use Rattle.host.specs.CallList.{head_of, call_length, well_formed, read_of, call_in, shown_length, answer_of, Ran, stopped, answered, run_calls, calls_in, answers_of, run_list}
 use Rattle.tc_aead_cipher.specs.Variant.{variant_of, is_variant}
 
 -- ---- what was read
@@ -46,8 +46,8 @@ not_false true x e =
     let z : ◌≡◌ {A = ℕ} 0 1 = ap (λ (t : Bool). cond t 1 0) e in absurd (omega arith)
 not_false false x e = e
 
-length_within : (rest : List ℕ) → well_formed_lem rest ≡ true → call_length (head_of rest) ≤ length rest
-unfolding well_formed_lem
+length_within : (rest : List ℕ) → well_formed rest ≡ true → call_length (head_of rest) ≤ length rest
+unfolding well_formed
 length_within rest t =
     let h = head_of rest in
     leb-true (call_length h) (length rest)
@@ -57,16 +57,16 @@ length_within rest t =
     (cond (ltb h.kind 1) false (cond (ltb 9 h.kind) false (leb (call_length h) (length rest)))) t)))
 
 pub read_found : (rest : List ℕ) (h : Head) → ReadCall h ≡ read_of rest
-    → (h ≡ head_of rest) × (well_formed_lem rest ≡ true) × (call_length h ≤ length rest)
+    → (h ≡ head_of rest) × (well_formed rest ≡ true) × (call_length h ≤ length rest)
 unfolding read_of
 read_found rest h e =
-    let f = by_form (well_formed_lem rest) h (head_of rest) (sym e) in
+    let f = by_form (well_formed rest) h (head_of rest) (sym e) in
     let same : call_length h ≡ call_length (head_of rest) = ap (λ (k : Head). call_length k) f.0 in
     (f.0, f.1, omega (arith, same, length_within rest f.1))
 
-pub read_none : (rest : List ℕ) → Malformed ≡ read_of rest → well_formed_lem rest ≡ false
+pub read_none : (rest : List ℕ) → Malformed ≡ read_of rest → well_formed rest ≡ false
 unfolding read_of
-read_none rest e = by-none (well_formed_lem rest) (head_of rest) (sym e)
+read_none rest e = by-none (well_formed rest) (head_of rest) (sym e)
 
 -- what is lent from a place on
 pub from_place : (l : List ℕ) (at : ℕ) → take (length l - at) (drop at l) ≡ drop at l
@@ -80,19 +80,19 @@ module _ (rest : List ℕ) (e : SparkleEngine) (room : ℕ) where
   run_end zero h = refl
   run_end (suc k) h = rw (le-ltb 0 (length rest) (omega arith)) refl
 
-  run_malformed : (k : ℕ) → 0 < length rest → length rest ≤ k → well_formed_lem rest ≡ false
+  run_malformed : (k : ℕ) → 0 < length rest → length rest ≤ k → well_formed rest ≡ false
       → run_calls k rest e room ≡ stopped 21 rest
   unfolding run_calls
   run_malformed zero some enough w = absurd (omega arith)
   run_malformed (suc k) some enough w = rw (lt-ltb 0 (length rest) some, w) refl
 
-  run_no_room : (k : ℕ) → 0 < length rest → length rest ≤ k → well_formed_lem rest ≡ true
+  run_no_room : (k : ℕ) → 0 < length rest → length rest ≤ k → well_formed rest ≡ true
       → leb (34 + shown_length (head_of rest)) room ≡ false → run_calls k rest e room ≡ stopped 22 rest
   unfolding run_calls
   run_no_room zero some enough w f = absurd (omega arith)
   run_no_room (suc k) some enough w f = rw (lt-ltb 0 (length rest) some, w, f) refl
 
-  run_call : (k : ℕ) → 0 < length rest → well_formed_lem rest ≡ true → leb (34 + shown_length (head_of rest)) room ≡ true
+  run_call : (k : ℕ) → 0 < length rest → well_formed rest ≡ true → leb (34 + shown_length (head_of rest)) room ≡ true
       → run_calls (suc k) rest e room
       ≡ answered (answer_of e (call_in (head_of rest) (drop 33 rest)))
       (run_calls k (drop (call_length (head_of rest)) rest) (step e (call_in (head_of rest) (drop 33 rest))).engine
@@ -171,7 +171,7 @@ module _ (W : Ran) (list out₀ out : List ℕ) (e : SparkleEngine) (at used : �
     walk_malformed r = stop 21 (run_malformed (drop at list) e _ w.fuel some fueled (read_none (drop at list) r))
 
     module _ (h : Head) (r : ReadCall h ≡ read_of (drop at list)) where
-      found : (h ≡ head_of (drop at list)) × (well_formed_lem (drop at list) ≡ true) × (call_length h ≤ length (drop at list))
+      found : (h ≡ head_of (drop at list)) × (well_formed (drop at list) ≡ true) × (call_length h ≤ length (drop at list))
       found = read_found (drop at list) h r
 
       pub call_within : 33 + h.first + h.second + h.third ≤ length list - at
@@ -350,7 +350,7 @@ run_is_answers zero rest e room z = refl
 run_is_answers (suc k) rest e room z =
     let h = head_of rest in
     let c = call_in h (drop 33 rest) in
-    turn-answers (ltb 0 (length rest)) (well_formed_lem rest) (leb (34 + shown_length h) room) rest e c (calls_in k (drop (call_length h) rest)) _
+    turn-answers (ltb 0 (length rest)) (well_formed rest) (leb (34 + shown_length h) room) rest e c (calls_in k (drop (call_length h) rest)) _
     (run_is_answers k (drop (call_length h) rest) (step e c).engine (room - (34 + shown_length h))) z
 
 -- Where the code is 0, the whole list was read: the rest's length bounds its calls.
@@ -363,6 +363,6 @@ run_reads_all (suc k) rest e room n z =
     let c = call_in h (drop 33 rest) in
     let a = length-drop (call_length h) rest in
     let b = head-long h in
-    turn-left (ltb 0 (length rest)) (well_formed_lem rest) (leb (34 + shown_length h) room) rest (answer_of e c) _
+    turn-left (ltb 0 (length rest)) (well_formed rest) (leb (34 + shown_length h) room) rest (answer_of e c) _
     (λ t. let r = ltb-false 0 (length rest) t in omega (arith, r))
     (run_reads_all k (drop (call_length h) rest) (step e c).engine (room - (34 + shown_length h)) (omega (arith, a, b))) z

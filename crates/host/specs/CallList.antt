@@ -34,14 +34,14 @@ unfoldable pub call_length : Head → ℕ
 call_length h = 33 + h.first + h.second + h.third
 
 -- A call is well-formed: its head is whole, its kind is one of the nine, its runs stand in the list.
-unfoldable pub well_formed_lem : List ℕ → Bool
-well_formed_lem rest =
+unfoldable pub well_formed : List ℕ → Bool
+well_formed rest =
     cond (ltb (length rest) 33) false
     (cond (ltb (head_of rest).kind 1) false
     (cond (ltb 9 (head_of rest).kind) false (leb (call_length (head_of rest)) (length rest))))
 
 unfoldable pub read_of : List ℕ → Read
-read_of rest = cond (well_formed_lem rest) (ReadCall (head_of rest)) Malformed
+read_of rest = cond (well_formed rest) (ReadCall (head_of rest)) Malformed
 
 -- The runs of bytes.
 unfoldable pub first_run : Head → List ℕ → List ℕ
@@ -168,7 +168,7 @@ run_calls (suc k) rest e room =
     let h = head_of rest in
     let c = call_in h (drop 33 rest) in
     cond (ltb 0 (length rest))
-    (cond (well_formed_lem rest)
+    (cond (well_formed rest)
     (cond (leb (34 + shown_length h) room)
     (answered (answer_of e c)
     (run_calls k (drop (call_length h) rest) (step e c).engine (room - (34 + shown_length h))))
@@ -181,7 +181,7 @@ unfoldable pub calls_in : ℕ → List ℕ → List Call
 calls_in zero rest = []
 calls_in (suc k) rest =
     cond (ltb 0 (length rest))
-    (cond (well_formed_lem rest) (call_in (head_of rest) (drop 33 rest) ∷ calls_in k (drop (call_length (head_of rest)) rest)) []) []
+    (cond (well_formed rest) (call_in (head_of rest) (drop 33 rest) ∷ calls_in k (drop (call_length (head_of rest)) rest)) []) []
 
 unfoldable pub answers_of : SparkleEngine → List Call → List ℕ
 answers_of e [] = []
