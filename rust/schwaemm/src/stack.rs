@@ -4,7 +4,7 @@ use std::mem::MaybeUninit;
 use std::sync::atomic::{Ordering, compiler_fence};
 
 /// Words of eight bytes that are written over: 8 KiB, where a packet takes up
-/// to 2.4 KiB and a list of calls up to 5 KiB (docs/PERFORMANCE.md).
+/// to 2.4 KiB and a list of calls up to 7 KiB (docs/PERFORMANCE.md).
 const WORDS: usize = 1024;
 
 /// Writes zeros over the stack below the caller's, where a call of an archive
