@@ -50,6 +50,7 @@ def places(log):
 # ---- the text of a crate
 
 WORD = r"[^\W\d][\w'-]*"
+NAMED = re.compile(r"\bcrate::proofs::(\w+)::(\w+)")  # the laws that an attribute names for the search
 FUNCTION = re.compile(r"( *)(?:pub(?:\(crate\))? )?(?:extern \"C\" )?fn (\w+)")
 MARKS = r"(?:(?:abbrev|unfoldable|opaque|pub) )*"
 NAME = r"(?:«[^»]+»|" + WORD + r"|◌[^\s(){}]+◌)"
@@ -101,7 +102,7 @@ class Crate:
         """Each function's contract and body. What stands outside them belongs to the file."""
         module = path.removeprefix("src/").removesuffix(".rt")
         module = "" if module in ("lib", "main") else module + "/"
-        kind, place, depth, closing = "", None, 0, ""
+        kind, place, depth, closing, named = "", None, 0, "", []
         for number, line in enumerate(lines):
             found, methods = FUNCTION.match(line), re.match(r"impl(?:<[^>]*>)? (\w+)", line)
             if methods:
@@ -110,7 +111,9 @@ class Crate:
                 kind = ""
             if place is None and found:
                 closing, place = found.group(1) + "}", module + (kind if found.group(1) else "") + found.group(2)
-                self.functions[place] = {"contract": "", "body": "", "others": others}
+                self.functions[place] = {"contract": "", "body": "", "others": others, "laws": named}
+            if place is None or line.lstrip().startswith("#["):
+                named = NAMED.findall(line) if line.lstrip().startswith("#[") else []
             if place is None:
                 self.owners[path, number] = [] if IMPORT.match(line) else [("file", path)]
                 continue
@@ -164,6 +167,12 @@ class Crate:
                 text += "\n" + "\n".join(lines[number : end + 1])
         return text
 
+    def stated(self, file, name):
+        """The statement of a law that is named for the search, or of the laws of a set."""
+        of = re.search(rf"ruleset {name} = \(?([^)\n]*)", self.files.get(f"proofs/{file}.antt", ""))
+        names = [one.strip() for one in of.group(1).split(",")] if of else [name]
+        return "\n".join(self.law(file, one) or "" for one in names)
+
     def leads_to(self, names):
         """The definitions that names lead to."""
         todo, seen = set(names), set()
@@ -207,6 +216,8 @@ class Crate:
         called, own = self.called(place), self.functions[place]
         names = words(own["body"], fields=True).union(*(self.cited(one) for one in {place} | called))
         found = {("body", place), ("contract", place), *(("contract", other) for other in called)}
+        for file, law in own["laws"]:
+            found |= self.leads_to(words(self.stated(file, law)))
         return found | self.leads_to(names) | {("file", path) for path in self.files if path.endswith(".rt")}
 
     @functools.cache
