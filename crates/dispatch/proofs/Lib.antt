@@ -1,2 +1,3 @@
 -- The proofs of the dispatcher.
+pub mod KindCases
 pub mod KindLaws

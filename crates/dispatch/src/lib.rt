@@ -55,7 +55,7 @@ fn tag_len(e: SparkleEngine) -> usize
 
 // A data call, or else the end. Their answers have one type, so `call` copies the engine of both in one
 // place, which is smaller and faster than an arm for each.
-#[tactic(auto, using(crate::proofs::KindLaws::by_kind))]
+#[tactic(auto, using(crate::proofs::KindCases::by_kind))]
 fn data_or_end(e: SparkleEngine, kind: CallKind, input: &[u8], output: &mut [u8]) -> Done
     ensures value { result ≡ data_or_end e kind input.now output.old }
     ensures output_after { output.new ≡ data_or_end_out e kind input.now output.old }
