@@ -1,5 +1,4 @@
 -- `run_on` copies the state out of the slice, runs it and copies it back, or finds the slice too short.
--- what is copied back is an array, and so as long as any state
 use mathlib.Core.Path.{refl, ap, ◌∙◌}
 use mathlib.Core.List.{List}
 use Prim.Native.Nat.{ℕ}
@@ -29,6 +28,7 @@ returns c =
           ∙ run_in_place b s.args.first s.args.count s.args.n _ w s.requires branch.if-words-n.false;
     }
 
+-- what is copied back is an array, and so as long as any state
 pub copy-requires-2 : goal.copy-requires-2
 copy-requires-2 c =
     let run = c.before in

@@ -1,9 +1,9 @@
 -- `round_constant` gives RCON[s % 8]: each arm by its number, the last by what is left.
--- what is left for the last arm, in two halves
 use Rattle.std.proofs.Common.{◌≡◌, ℕ, ◌%◌, ◌<◌, ◌≤◌, refl, arith}
 use Rattle.sparkle.specs.Sparkle.{rcon}
 use Rattle.sparkle.proofs.scalar.round_constant.Goals as goal
 
+-- what is left for the last arm, in two halves
 four-or-more : (k : ℕ) → (k ≡ 0 → ⊥) → (k ≡ 1 → ⊥) → (k ≡ 2 → ⊥) → (k ≡ 3 → ⊥) → 4 ≤ k
 four-or-more k a b c d = omega arith
 

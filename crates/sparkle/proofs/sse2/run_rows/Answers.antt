@@ -1,6 +1,4 @@
 -- `run_rows` runs `count` steps: a turn reads the row of the next step from the table, and `run_next` takes the step up.
--- a step of the loop has a row in the table
--- the steps so far and that of a turn, by its row; `t2` is the parameter `rows`
 use Rattle.std.proofs.Common.{◌≡◌, ℕ, ◌+◌, ◌<◌, ap, ◌∙◌, arith}
 use Rattle.sparkle.specs.Sparkle.{run, step}
 use Rattle.sparkle.specs.Lanes.{joined, rows_from}
@@ -11,9 +9,11 @@ use Rattle.sparkle.proofs.sse2.run_rows.Goals as goal
 pub loop-s-init : goal.loop-s-init
 loop-s-init c = (c.requires.0, λ first table. run_none 8 first 0 _ (omega arith))
 
+-- a step of the loop has a row in the table
 in_table : (c : goal.At-loop-s) → c.loop-s.s < 12
 in_table c = omega (arith, c.loop-s.invariant.0, c.requires.1)
 
+-- the steps so far and that of a turn, by its row
 turn : (c : goal.After-step16-next) (first : ℕ) → c.args.rows ≡ rows_from first 12 → joined c.step16-next.result ≡ run 8 first (c.loop-s.s + 1) (joined c.args.start)
 turn c first table =
     let at = c.loop-s in

@@ -1,6 +1,4 @@
 -- `run_rows` runs `count` steps: a turn reads the row of the next step from the table, and `run_next` takes the step up.
--- a step of the loop has a row in the table
--- the steps so far and that of a turn, by its row; `t2` is the parameter `rows`
 use Rattle.std.proofs.Common.{◌≡◌, ℕ, ◌-◌, ◌<◌}
 use Rattle.sparkle.specs.Sparkle.{run}
 use Rattle.sparkle.specs.Lanes.{joined, rows_from}
