@@ -52,6 +52,9 @@ def places(log):
 WORD = r"[^\W\d][\w'-]*"
 NAMED = re.compile(r"\bcrate::proofs::(\w+)::(\w+)")  # the laws that an attribute names for the search
 FUNCTION = re.compile(r"( *)(?:pub(?:\(crate\))? )?(?:extern \"C\" )?fn (\w+)")
+TRAIT = re.compile(r"(?:pub(?:\(crate\))? )?trait (\w+)")
+# an impl: its parameters, of a trait and of what, for which type with which parts
+METHODS = re.compile(r"impl(<[^>]*>)? (?:(\w+)(<.*>)? for )?(\w+)(?:(<.*>) \{)?")
 MARKS = r"(?:(?:abbrev|unfoldable|opaque|pub) )*"
 NAME = r"(?:«[^»]+»|" + WORD + r"|◌[^\s(){}]+◌)"
 DECLARED = re.compile(r" *" + MARKS + r"(?:(?:data|record) (" + NAME + r")(?: .*)?|(" + NAME + r"(?: " + NAME + r")*)) :(?: |$)")
@@ -74,6 +77,15 @@ def of_others(text, own):
     they are no definition of this crate, whatever is called so here."""
     others = [names for crate, names in OTHERS.findall(text) if crate not in (own, "std")]
     return {name.strip() for names in others for name in names.split(",") if " as " not in name}
+
+
+def implemented(own, trait, of, kind, parts):
+    """How the prover names an impl: after its type, or after the type and the trait with all their parts but the impl's
+    own parameters, as SparkleVariantTryFromU8."""
+    text = f"{kind} {parts or ''} {trait} {of or ''}" if trait else kind
+    words = re.findall(r"(?<!')\b\w+", text.replace("()", "Unit"))
+    own = re.findall(r"(\w+)(?::[^,>]*)?[,>]", own or "")
+    return "".join(word[:1].upper() + word[1:] for word in words if word not in own)
 
 
 def indent(line):
@@ -99,19 +111,32 @@ class Crate:
                 self.renamed.setdefault(new, set()).add(old)
 
     def read_code(self, path, lines, others):
-        """Each function's contract and body. What stands outside them belongs to the file."""
+        """Each function's contract and body. The ghost members of an impl are in the contracts of its functions. What
+        stands outside belongs to the file."""
         module = path.removeprefix("src/").removesuffix(".rt")
         module = "" if module in ("lib", "main") else module + "/"
         kind, place, depth, closing, named = "", None, 0, "", []
+        member, ghosts, ghost = "", [], 0  # the ghost members of an impl, what their lines change, braces that are open
         for number, line in enumerate(lines):
-            found, methods = FUNCTION.match(line), re.match(r"impl(?:<[^>]*>)? (\w+)", line)
+            head = line if line.endswith("{") else " ".join(text.strip() for text in lines[number : number + 3])
+            found, methods = FUNCTION.match(line), METHODS.match(head) if line.startswith("impl") else None
             if methods:
-                kind = methods.group(1) + "/"
+                kind, member, ghosts = implemented(*methods.groups()) + "/", "", []
+            elif place is None and TRAIT.match(line):
+                kind, member, ghosts = TRAIT.match(line).group(1) + "/", "", []
             elif line == "}" and place is None:
                 kind = ""
+            if place is None and kind and (ghost or re.match(r" *ghost \w+(?: = |: )", line)):
+                ghost += line.count("{") - line.count("}")
+                member += line + "\n"
+                self.owners[path, number] = ghosts
+                continue
             if place is None and found:
-                closing, place = found.group(1) + "}", module + (kind if found.group(1) else "") + found.group(2)
+                closing, place, declared = found.group(1) + "}", module + (kind if found.group(1) else "") + found.group(2), True
                 self.functions[place] = {"contract": "", "body": "", "others": others, "laws": named}
+                if kind and found.group(1) and member:
+                    self.functions[place]["contract"] = member
+                    ghosts.append(("contract", place))
             if place is None or line.lstrip().startswith("#["):
                 named = NAMED.findall(line) if line.lstrip().startswith("#[") else []
             if place is None:
@@ -122,7 +147,8 @@ class Crate:
             part = "contract" if contract else "body"
             self.functions[place][part] += line + "\n"
             self.owners[path, number] = [(part, place)]
-            if line == closing:
+            declared = declared and not (line.endswith("{") and not contract)  # so far: a trait's function has no body
+            if line == closing or declared and depth == 0 and line.endswith(";"):
                 place = None
 
     def read_text(self, path, lines, _):

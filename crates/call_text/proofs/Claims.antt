@@ -2,7 +2,8 @@
 use mathlib.Core.Path.{◌≡◌, refl, sym, ap, ap₂, ◌∙◌}
 use mathlib.Core.List.{List, [], ◌∷◌, ◌++◌}
 use mathlib.Core.Logic.{◌↔◌, ◌⊎◌}
-use mathlib.Core.Option.{some, some-injective}
+use Rattle.std.specs.Prelude.{Some}
+use Rattle.std.proofs.lemmas.Option.{same_Some}
 use Prim.Native.Nat.{ℕ, suc, ◌≤◌, ◌<◌}
 use native.Mathlib.Omega.{arith}
 use lib.ListN.{length, get_or, take, drop, length-append}
@@ -20,7 +21,7 @@ use Rattle.call_text.specs.CallText.{variant_text, call_text, newline, Within, W
 use Rattle.call_text.specs.Line.{read_call, read_variant}
 use Rattle.call_text.specs.List.{lines_of, FileRead, read_file, FileCase}
 use Rattle.call_text.specs.List.FileRead.{list, refused}
-use Rattle.call_text.specs.Run.{begin_of, bytes_of, printed, Writes}
+use Rattle.call_text.specs.Run.{begin_of, printed, Writes}
 use Rattle.call_text.proofs.LineLaws.{read_exactly, variant_exactly}
 use Rattle.call_text.proofs.LinesLaws.{lines_exactly}
 use Rattle.call_text.proofs.FileLaws.{file-accepted, file_too_long, file_wrong, file_case, written_once}
@@ -37,31 +38,31 @@ cancel s t e =
 
 -- A line is read as a call exactly when it is what is written for the call, and the call is within the limits; the same
 -- of the variant's line.
-pub line_of_a_call : (s : List ℕ) (c : Call) → (read_call s ≡ some c) ↔ ((s ≡ call_text c) × Within c)
+pub line_of_a_call : (s : List ℕ) (c : Call) → (read_call s ≡ Some c) ↔ ((s ≡ call_text c) × Within c)
 line_of_a_call = read_exactly
 
-pub line_of_a_variant : (s : List ℕ) (v : SparkleVariant) → (read_variant s ≡ some v) ↔ (s ≡ variant_text v)
+pub line_of_a_variant : (s : List ℕ) (v : SparkleVariant) → (read_variant s ≡ Some v) ↔ (s ≡ variant_text v)
 line_of_a_variant = variant_exactly
 
 -- A call that is written and read again is the same call.
-pub written_and_read : (c : Call) → Within c → read_call (call_text c) ≡ some c
+pub written_and_read : (c : Call) → Within c → read_call (call_text c) ≡ Some c
 written_and_read c w = (read_exactly (call_text c) c).1 (refl, w)
 
 -- "Each accepted line stands for exactly one variant or call": no line for two calls or two variants, and no two lines
 -- for one.
 pub one_call_for_a_line : (c d : Call) → Within c → Within d → call_text c ≡ call_text d → c ≡ d
 one_call_for_a_line c d w u e =
-    some-injective c d (sym (written_and_read c w) ∙ (read_exactly (call_text c) d).1 (e, u))
+    same_Some c d (sym (written_and_read c w) ∙ (read_exactly (call_text c) d).1 (e, u))
 
 pub one_variant_for_a_line : (v u : SparkleVariant) → variant_text v ≡ variant_text u → v ≡ u
 one_variant_for_a_line v u e =
-    some-injective v u
+    same_Some v u
     (sym ((variant_exactly (variant_text v) v).1 refl) ∙ (variant_exactly (variant_text v) u).1 e)
 
-pub one_line_for_a_call : (s t : List ℕ) (c : Call) → read_call s ≡ some c → read_call t ≡ some c → s ≡ t
+pub one_line_for_a_call : (s t : List ℕ) (c : Call) → read_call s ≡ Some c → read_call t ≡ Some c → s ≡ t
 one_line_for_a_call s t c e f = ((read_exactly s c).0 e).0 ∙ sym ((read_exactly t c).0 f).0
 
-pub one_line_for_a_variant : (s t : List ℕ) (v : SparkleVariant) → read_variant s ≡ some v → read_variant t ≡ some v → s ≡ t
+pub one_line_for_a_variant : (s t : List ℕ) (v : SparkleVariant) → read_variant s ≡ Some v → read_variant t ≡ Some v → s ≡ t
 one_line_for_a_variant s t v e f = (variant_exactly s v).0 e ∙ sym ((variant_exactly t v).0 f)
 
 -- No line is a variant's and a call's.
@@ -128,7 +129,7 @@ word_of_a_call Call.Reset = Worded.alone
 
 -- What the program's loop writes behind the first text, and nothing else, is the rest of what is printed.
 pub loop_of_the_program : (file s : List ℕ) → Writes file (begin_of file).run s
-    → printed file ≡ bytes_of (begin_of file).text ++ s
+    → printed file ≡ (begin_of file).text ++ s
 loop_of_the_program = loop_printed
 
 -- "Before any call runs it refuses": of a refused file no step is made.

@@ -18,8 +18,8 @@ use Rattle.tc_sparkle_aead.specs.Message.{zeros}
 use Rattle.tc_sparkle_aead.specs.Worked.{every_call}
 use Rattle.sheet_text.specs.Text.{sheet_text}
 use Rattle.call_text.specs.CallText.{variant_text, call_text, Within, AllWithin, list_text, Written}
-use Rattle.call_text.specs.Line.{is_form, item_at, number_in, is_mark, fits, start, failed, past_byte, past_field, compare, compare_all, fields_of, placed, found_as, found_among, found_in, variant_found}
-use Rattle.call_text.specs.List.{lines_of, check_calls, check_file, read_as, read_file}
+use Rattle.call_text.specs.Line.{is_form, item_at, number_in, is_mark, fits, start, past_byte, past_field, compare, compare_all, fields_of, placed, found_as, found_among, found_in, read_variant}
+use Rattle.call_text.specs.List.{lines_of, check_calls, check_lines, check_file, read_as, read_file}
 use Rattle.call_text.specs.List.FileRead.{refused}
 use Rattle.call_text.specs.Run.{printed}
 use Rattle.call_text.proofs.RunLaws.{printed-list}
@@ -94,5 +94,5 @@ pub refused_files : (read_file (text "(variant 1)\n(mac)\n(mac )\n(mac)\n") ≡ 
     × (read_file (text "(mac)\n") ≡ refused 1)
     × (read_file (text "(variant 1)\n(mac)\n\n") ≡ refused 3)
     × (read_file [] ≡ refused 1)
-unfolding read_file read_as check_file lines_of check_calls variant_found found_in found_among found_as placed fields_of compare_all compare failed start past_byte past_field is_mark fits item_at number_in is_form form_end open_end items_end is_open plain_end is_number decimal_of decimal_from with_digit is_hex is_variant
+unfolding read_file read_as check_file lines_of check_lines check_calls read_variant found_in found_among found_as placed fields_of compare_all compare start past_byte past_field is_mark fits item_at number_in is_form form_end open_end items_end is_open plain_end is_number decimal_of decimal_from with_digit is_hex is_variant
 refused_files = (refl, refl, refl, refl, refl)

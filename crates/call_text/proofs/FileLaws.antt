@@ -1,16 +1,14 @@
 -- What a file is read as: a list exactly where it is that list's text, and else refused with a line's number.
 use mathlib.Core.Path.{◌≡◌, refl, sym, ap, ap₂, subst, ◌∙◌}
-use mathlib.Core.Bool.{Bool, true, false, cond, false≢true}
+use mathlib.Core.Bool.{Bool, true, false}
 use mathlib.Core.Logic.{◌↔◌, ◌⊎◌, inl, inr}
-use mathlib.Core.Option.{none, some}
 use mathlib.Core.List.{List, [], ◌∷◌, ◌++◌, map}
 use Prim.Native.Nat.{ℕ, zero, suc, ◌+◌, ◌≤◌, ◌<◌}
 use native.Mathlib.Omega.{arith}
 use borrow.Author.Tests.{ltb-true, ltb-false, lt-ltb, le-ltb}
 use lib.Dec.{ltb}
 use lib.ListN.{length}
-use Rattle.forms.specs.declared.bytes.ByteKind.TheVariants.{Line}
-use Rattle.forms.specs.Bytes.{all}
+use Rattle.forms.specs.Bytes.{all, is_line}
 use Rattle.forms.proofs.BytesLaws.{all_append}
 use Rattle.forms.proofs.DecimalLaws.{decimal-line}
 use Rattle.forms.proofs.HexLaws.{hex-line}
@@ -18,17 +16,18 @@ use Rattle.tc_aead_cipher.specs.declared.phase.Direction.TheVariants.{Encrypt, D
 use Rattle.tc_aead_cipher.specs.declared.variant.SparkleVariant.{SparkleVariant}
 use Rattle.tc_aead_cipher.specs.Variant.{number}
 use Rattle.tc_aead_cipher.specs.Call.{Call}
-use Rattle.call_text.specs.declared.list.Checked.{Checked}
-use Rattle.call_text.specs.declared.list.Checked.TheVariants.{Accepted, Refused}
+use Rattle.std.specs.Prelude.{Option, Some, None, Ok, Err}
+use Rattle.std.proofs.lemmas.Option.{none-some}
+use Rattle.call_text.specs.declared.line.Found.{Found}
 use Rattle.call_text.specs.CallText.{variant_text, call_text, Within, AllWithin, newline, calls_text, list_text, Written, IsVariant, IsCall, WrongCall, WrongLine, Each, IsLine, EndsFull, joined}
-use Rattle.call_text.specs.Line.{found_in, call_found, read_call, variant_found, read_variant}
-use Rattle.call_text.specs.List.{lines_of, check_calls, check_lines, check_file, calls_of, FileRead, variant_in, behind_first, read_as, read_file, FileCase}
+use Rattle.call_text.specs.Line.{found_in, call_found, read_call, read_variant}
+use Rattle.call_text.specs.List.{lines_of, Checked, refuse, check_calls, check_lines, check_file, calls_of, FileRead, behind_first, read_as, read_file, FileCase}
 use Rattle.call_text.specs.List.FileRead.{list, refused}
-use Rattle.call_text.proofs.LinesLaws.{Some, some_full, lines-joined, lines_open, lines-back}
-use Rattle.call_text.proofs.LineLaws.{read_exactly, variant_exactly}
+use Rattle.call_text.proofs.LinesLaws.{NotEmpty, some_full, lines-joined, lines_open, lines-back}
+use Rattle.call_text.proofs.LineLaws.{made, read_exactly, variant_exactly}
 
 -- A call's text is one line, and not empty.
-pub call_line : (c : Call) → Within c → all Line (call_text c) ≡ true
+pub call_line : (c : Call) → Within c → all is_line (call_text c) ≡ true
 unfolding call_text
 call_line (Call.Init Encrypt key nonce size header) (Within.of-init _ _ _ _ _ a b h d) =
     simp (all_append, hex-line key a, hex-line nonce b, decimal-line size, hex-line header d)
@@ -54,7 +53,7 @@ call_some Call.Mac = omega arith
 call_some Call.Reset = omega arith
 
 -- So is a variant's.
-pub variant_line : (v : SparkleVariant) → all Line (variant_text v) ≡ true
+pub variant_line : (v : SparkleVariant) → all is_line (variant_text v) ≡ true
 unfolding variant_text
 variant_line v = simp (all_append, decimal-line (number v))
 
@@ -70,7 +69,7 @@ calls-whole : (calls : List Call) → AllWithin calls → Each IsLine (map call_
 calls-whole [] AllWithin.none = Each.none
 calls-whole (c ∷ calls) (AllWithin.more _ _ w others) = Each.more (call_line c w) (calls-whole calls others)
 
-calls_some : (calls : List Call) → Each Some (map call_text calls)
+calls_some : (calls : List Call) → Each NotEmpty (map call_text calls)
 calls_some [] = Each.none
 calls_some (c ∷ calls) = Each.more (call_some c) (calls_some calls)
 
@@ -111,58 +110,52 @@ lines-written file v calls size within e = record { file_size = size; in-limits 
 
 -- ---- What was found in a line is what is read
 
-chosen : {A : Type 0} (t : Bool) (a c : A) → cond t (some a) none ≡ some c → (t ≡ true) × (a ≡ c)
-chosen true a c e = (refl, cc)
-chosen false a c e = let z : ◌≡◌ {A = ℕ} 0 1 = cc in absurd (omega arith)
-
-read_found : (l : List ℕ) (c : Call) → read_call l ≡ some c
-    → ((found_in l).found ≡ true) × (call_found l (found_in l) ≡ c)
+read_found : (l : List ℕ) (c : Call) → read_call l ≡ Some c → (f : Found) × (found_in l ≡ Some f) × (call_found l f ≡ c)
 unfolding read_call
-read_found l c e = chosen (found_in l).found (call_found l (found_in l)) c e
+read_found l c e = made (call_found l) (found_in l) c e
 
-found_read : (l : List ℕ) → (found_in l).found ≡ true → read_call l ≡ some (call_found l (found_in l))
+found_read : (l : List ℕ) (f : Found) → found_in l ≡ Some f → read_call l ≡ Some (call_found l f)
 unfolding read_call
-found_read l e = rw e refl
+found_read l f e = rw e refl
 
-read_variant_lem : (l : List ℕ) (v : SparkleVariant) → read_variant l ≡ some v
-    → ((variant_found l).found ≡ true) × ((variant_found l).variant ≡ v)
-unfolding read_variant
-read_variant_lem l v e = chosen (variant_found l).found (variant_found l).variant v e
-
-variant_read : (l : List ℕ) → (variant_found l).found ≡ true → read_variant l ≡ some (variant_found l).variant
-unfolding read_variant
-variant_read l e = rw e refl
-
-calls_cons : (l : List ℕ) (c : Call) (ls : List (List ℕ)) → read_call l ≡ some c → calls_of (l ∷ ls) ≡ c ∷ calls_of ls
+calls_cons : (l : List ℕ) (c : Call) (ls : List (List ℕ)) → read_call l ≡ Some c → calls_of (l ∷ ls) ≡ c ∷ calls_of ls
 calls_cons l c ls e = rw (e, calls_of) refl
 
 -- ---- What was checked, and what it is read as
 
-refused-accepted : (k : ℕ) → Refused k ≡ Accepted → ⊥
-refused-accepted k e = let z : ◌≡◌ {A = ℕ} 0 1 = cc in omega arith
+refused-accepted : (k : ℕ) (v : SparkleVariant) → refuse k ≡ Ok v → ⊥
+refused-accepted k v e = let z : ◌≡◌ {A = ℕ} 0 1 = cc in omega arith
 
-same-refused : {j k : ℕ} → Refused j ≡ Refused k → j ≡ k
-same-refused e = cc
+abbrev line_in : Checked → ℕ
+line_in (Ok v) = 0
+line_in (Err e) = e.line
 
-unfound : (t : Bool) → (t ≡ true → ⊥) → t ≡ false
-unfound true f = absurd (f refl)
-unfound false f = refl
+same-refused : {j k : ℕ} → refuse j ≡ refuse k → j ≡ k
+same-refused e = ap line_in e
 
-not_found_lem : (t : Bool) → t ≡ false → t ≡ true → ⊥
-not_found_lem t e f = false≢true (sym e ∙ f)
+same_variant : {v u : SparkleVariant} → ◌≡◌ {A = Checked} (Ok v) (Ok u) → v ≡ u
+same_variant e = cc
 
-read-refused : (ls : List (List ℕ)) (c : Checked) (k : ℕ) → read_as ls c ≡ refused k → c ≡ Refused k
+-- Where nothing can be found nothing is.
+unfound : {A : Type 0} (o : Option A) → ((a : A) → o ≡ Some a → ⊥) → o ≡ None
+unfound (Some a) f = absurd (f a refl)
+unfound None f = refl
+
+not_found_lem : {A : Type 0} (o : Option A) (a : A) → o ≡ None → o ≡ Some a → ⊥
+not_found_lem o a e f = none-some a (sym e ∙ f)
+
+read-refused : (ls : List (List ℕ)) (c : Checked) (k : ℕ) → read_as ls c ≡ refused k → c ≡ refuse k
 unfolding read_as
-read-refused ls Accepted k e = let z : ◌≡◌ {A = ℕ} 0 1 = cc in absurd (omega arith)
-read-refused ls (Refused j) k e = cc
+read-refused ls (Ok v) k e = let z : ◌≡◌ {A = ℕ} 0 1 = cc in absurd (omega arith)
+read-refused ls (Err e) k q = let j : e.line ≡ k = cc in ap refuse j
 
 read-list : (ls : List (List ℕ)) (c : Checked) (v : SparkleVariant) (calls : List Call) → read_as ls c ≡ list v calls
-    → (c ≡ Accepted) × (variant_in ls ≡ v) × (calls_of (behind_first ls) ≡ calls)
+    → (c ≡ Ok v) × (calls_of (behind_first ls) ≡ calls)
 unfolding read_as
-read-list ls Accepted v calls e = (refl, cc, cc)
-read-list ls (Refused j) v calls e = let z : ◌≡◌ {A = ℕ} 0 1 = cc in absurd (omega arith)
+read-list ls (Ok u) v calls e = let q : u ≡ v = cc in (ap Ok q, cc)
+read-list ls (Err e) v calls q = let z : ◌≡◌ {A = ℕ} 0 1 = cc in absurd (omega arith)
 
-long-file : (file : List ℕ) → 65536 < length file → check_file file ≡ Refused 0
+long-file : (file : List ℕ) → 65536 < length file → check_file file ≡ refuse 0
 unfolding check_file
 long-file file h = rw (lt-ltb 65536 (length file) h) refl
 
@@ -180,14 +173,14 @@ size file = go (ltb 65536 (length file)) refl
     go true e = inl (ltb-true 65536 (length file) e)
     go false e = inr (ltb-false 65536 (length file) e)
 
-accepted_short : (file : List ℕ) → check_file file ≡ Accepted → length file ≤ 65536
-accepted_short file e = go (size file)
+accepted_short : (file : List ℕ) (v : SparkleVariant) → check_file file ≡ Ok v → length file ≤ 65536
+accepted_short file v e = go (size file)
   where
     go : Size file → length file ≤ 65536
-    go (inl h) = absurd (refused-accepted 0 (sym (long-file file h) ∙ e))
+    go (inl h) = absurd (refused-accepted 0 v (sym (long-file file h) ∙ e))
     go (inr h) = h
 
-pub refused-check : (file : List ℕ) (k : ℕ) → read_file file ≡ refused k → check_file file ≡ Refused k
+pub refused-check : (file : List ℕ) (k : ℕ) → read_file file ≡ refused k → check_file file ≡ refuse k
 unfolding read_file
 refused-check file k e = read-refused (lines_of file) (check_file file) k e
 
@@ -206,38 +199,37 @@ wrong_within _ _ (WrongLine.no_call n l ls is w) = omega (arith, wrong_call_with
 
 -- A line is found to be a call exactly where it is one.
 pub call_found_lem : (c : Call) → Within c
-    → ((found_in (call_text c)).found ≡ true) × (call_found (call_text c) (found_in (call_text c)) ≡ c)
+    → (f : Found) × (found_in (call_text c) ≡ Some f) × (call_found (call_text c) f ≡ c)
 call_found_lem c w = read_found (call_text c) c ((read_exactly (call_text c) c).1 (refl, w))
 
-found_is : (l : List ℕ) → (found_in l).found ≡ true
-    → (l ≡ call_text (call_found l (found_in l))) × Within (call_found l (found_in l))
-found_is l e = (read_exactly l (call_found l (found_in l))).0 (found_read l e)
+found_is : (l : List ℕ) (f : Found) → found_in l ≡ Some f → (l ≡ call_text (call_found l f)) × Within (call_found l f)
+found_is l f e = (read_exactly l (call_found l f)).0 (found_read l f e)
 
-found_call : (l : List ℕ) → (found_in l).found ≡ true → IsCall l
-found_call l e = let f = found_is l e in subst IsCall (sym f.0) (IsCall.of-call _ f.1)
+found_call : (l : List ℕ) (f : Found) → found_in l ≡ Some f → IsCall l
+found_call l f e = let g = found_is l f e in subst IsCall (sym g.0) (IsCall.of-call _ g.1)
 
-call-is : (l : List ℕ) → IsCall l → (found_in l).found ≡ true
-call-is _ (IsCall.of-call c w) = (call_found_lem c w).0
+call-is : (l : List ℕ) → IsCall l → (f : Found) × (found_in l ≡ Some f)
+call-is _ (IsCall.of-call c w) = let g = call_found_lem c w in (g.0, g.1)
 
-pub variant_found_lem : (v : SparkleVariant)
-    → ((variant_found (variant_text v)).found ≡ true) × ((variant_found (variant_text v)).variant ≡ v)
-variant_found_lem v = read_variant_lem (variant_text v) v ((variant_exactly (variant_text v) v).1 refl)
+pub variant_found_lem : (v : SparkleVariant) → read_variant (variant_text v) ≡ Some v
+variant_found_lem v = (variant_exactly (variant_text v) v).1 refl
 
-variant_text_lem : (l : List ℕ) → (variant_found l).found ≡ true → l ≡ variant_text (variant_found l).variant
-variant_text_lem l e = (variant_exactly l (variant_found l).variant).0 (variant_read l e)
+variant_text_lem : (l : List ℕ) (v : SparkleVariant) → read_variant l ≡ Some v → l ≡ variant_text v
+variant_text_lem l v e = (variant_exactly l v).0 e
 
-found_variant : (l : List ℕ) → (variant_found l).found ≡ true → IsVariant l
-found_variant l e = subst IsVariant (sym (variant_text_lem l e)) (IsVariant.of_variant _)
+found_variant : (l : List ℕ) (v : SparkleVariant) → read_variant l ≡ Some v → IsVariant l
+found_variant l v e = subst IsVariant (sym (variant_text_lem l v e)) (IsVariant.of_variant _)
 
-variant_is : (l : List ℕ) → IsVariant l → (variant_found l).found ≡ true
-variant_is _ (IsVariant.of_variant v) = (variant_found_lem v).0
+variant_is : (l : List ℕ) → IsVariant l → (v : SparkleVariant) × (read_variant l ≡ Some v)
+variant_is _ (IsVariant.of_variant v) = (v, variant_found_lem v)
 
 -- Lines are accepted exactly where they are calls, and are then read as those.
-calls-accepted : (k : ℕ) (calls : List Call) → AllWithin calls → check_calls k (map call_text calls) ≡ Accepted
+calls-accepted : (v : SparkleVariant) (k : ℕ) (calls : List Call) → AllWithin calls
+    → check_calls v k (map call_text calls) ≡ Ok v
 unfolding check_calls
-calls-accepted k [] AllWithin.none = refl
-calls-accepted k (c ∷ calls) (AllWithin.more _ _ w others) =
-    rw (call_found_lem c w).0 (calls-accepted (suc k) calls others)
+calls-accepted v k [] AllWithin.none = refl
+calls-accepted v k (c ∷ calls) (AllWithin.more _ _ w others) =
+    rw (check_calls, (call_found_lem c w).1) (calls-accepted v (suc k) calls others)
 
 calls-read : (calls : List Call) → AllWithin calls → calls_of (map call_text calls) ≡ calls
 calls-read [] AllWithin.none = refl
@@ -245,78 +237,107 @@ calls-read (c ∷ calls) (AllWithin.more _ _ w others) =
     calls_cons (call_text c) c (map call_text calls) ((read_exactly (call_text c) c).1 (refl, w))
     ∙ ap (λ (cs : List Call). c ∷ cs) (calls-read calls others)
 
-accepted-calls : (k : ℕ) (ls : List (List ℕ)) → check_calls k ls ≡ Accepted
-    → AllWithin (calls_of ls) × (ls ≡ map call_text (calls_of ls))
+-- A line that is a call, and one that is none.
+one_call : (v : SparkleVariant) (k : ℕ) (l : List ℕ) (ls : List (List ℕ)) (f : Found) → found_in l ≡ Some f
+    → check_calls v k (l ∷ ls) ≡ check_calls v (suc k) ls
 unfolding check_calls
-accepted-calls k [] h = (AllWithin.none, refl)
-accepted-calls k (l ∷ ls) h = go (accepted-calls (suc k) ls) (found_in l).found refl
+one_call v k l ls f e = rw (check_calls, e) refl
+
+no_call : (v : SparkleVariant) (k : ℕ) (l : List ℕ) (ls : List (List ℕ)) → found_in l ≡ None
+    → check_calls v k (l ∷ ls) ≡ refuse k
+unfolding check_calls
+no_call v k l ls e = rw (check_calls, e) refl
+
+accepted-calls : (v u : SparkleVariant) (k : ℕ) (ls : List (List ℕ)) → check_calls v k ls ≡ Ok u
+    → AllWithin (calls_of ls) × (ls ≡ map call_text (calls_of ls)) × (v ≡ u)
+unfolding check_calls
+accepted-calls v u k [] h = (AllWithin.none, refl, same_variant h)
+accepted-calls v u k (l ∷ ls) h = go (accepted-calls v u (suc k) ls) (found_in l) refl
   where
-    go : (check_calls (suc k) ls ≡ Accepted → AllWithin (calls_of ls) × (ls ≡ map call_text (calls_of ls)))
-        → (t : Bool) → (found_in l).found ≡ t
-        → AllWithin (calls_of (l ∷ ls)) × (l ∷ ls ≡ map call_text (calls_of (l ∷ ls)))
-    go f true e =
-        let g = f (rw e at h) in
-        let i = found_is l e in
-        rw (calls_cons l _ ls (found_read l e)) (AllWithin.more _ _ i.1 g.0, ap₂ ◌∷◌ i.0 g.1)
-    go f false e = absurd (refused-accepted k (rw e at h))
+    go : (check_calls v (suc k) ls ≡ Ok u → AllWithin (calls_of ls) × (ls ≡ map call_text (calls_of ls)) × (v ≡ u))
+        → (o : Option Found) → found_in l ≡ o
+        → AllWithin (calls_of (l ∷ ls)) × (l ∷ ls ≡ map call_text (calls_of (l ∷ ls))) × (v ≡ u)
+    go g (Some f) e =
+        let r = g (sym (one_call v k l ls f e) ∙ h) in
+        let i = found_is l f e in
+        rw (calls_cons l _ ls (found_read l f e)) (AllWithin.more _ _ i.1 r.0, ap₂ ◌∷◌ i.0 r.1, r.2)
+    go g None e = absurd (refused-accepted k u (sym (no_call v k l ls e) ∙ h))
 
 -- The lines of a list are accepted, and are read as that list.
-list-accepted : (v : SparkleVariant) (calls : List Call) → AllWithin calls → check_lines (list_lines v calls) ≡ Accepted
-list-accepted v calls within = rw (variant_found_lem v).0 (calls-accepted 2 calls within)
+list-accepted : (v : SparkleVariant) (calls : List Call) → AllWithin calls → check_lines (list_lines v calls) ≡ Ok v
+unfolding check_lines
+list-accepted v calls within = rw (check_lines, variant_found_lem v) (calls-accepted v 2 calls within)
 
-accepted-list : (ls : List (List ℕ)) → check_lines ls ≡ Accepted
-    → AllWithin (calls_of (behind_first ls)) × (ls ≡ list_lines (variant_in ls) (calls_of (behind_first ls)))
-accepted-list [] h = absurd (refused-accepted 1 h)
-accepted-list (l ∷ ls) h = go (variant_found l).found refl
+-- A first line that is a variant's, and one that is none.
+one_variant : (l : List ℕ) (ls : List (List ℕ)) (v : SparkleVariant) → read_variant l ≡ Some v
+    → check_lines (l ∷ ls) ≡ check_calls v 2 ls
+unfolding check_lines
+one_variant l ls v e = rw (check_lines, e) refl
+
+no_variant : (l : List ℕ) (ls : List (List ℕ)) → read_variant l ≡ None → check_lines (l ∷ ls) ≡ refuse 1
+unfolding check_lines
+no_variant l ls e = rw (check_lines, e) refl
+
+accepted-list : (v : SparkleVariant) (ls : List (List ℕ)) → check_lines ls ≡ Ok v
+    → AllWithin (calls_of (behind_first ls)) × (ls ≡ list_lines v (calls_of (behind_first ls)))
+unfolding check_lines
+accepted-list v [] h = absurd (refused-accepted 1 v h)
+accepted-list v (l ∷ ls) h = go (read_variant l) refl
   where
-    go : (t : Bool) → (variant_found l).found ≡ t
-        → AllWithin (calls_of ls) × (l ∷ ls ≡ list_lines (variant_found l).variant (calls_of ls))
-    go true e = let g = accepted-calls 2 ls (rw e at h) in (g.0, ap₂ ◌∷◌ (variant_text_lem l e) g.1)
-    go false e = absurd (refused-accepted 1 (rw e at h))
+    go : (o : Option SparkleVariant) → read_variant l ≡ o → AllWithin (calls_of ls) × (l ∷ ls ≡ list_lines v (calls_of ls))
+    go (Some u) e =
+        let g = accepted-calls u v 2 ls (sym (one_variant l ls u e) ∙ h) in
+        (g.0, ap₂ ◌∷◌ (variant_text_lem l u e ∙ ap variant_text g.2) g.1)
+    go None e = absurd (refused-accepted 1 v (sym (no_variant l ls e) ∙ h))
 
 -- Lines are refused at the first that is wrong.
-wrong_call : (k n : ℕ) (ls : List (List ℕ)) → WrongCall n ls → check_calls k ls ≡ Refused (k + n)
-unfolding check_calls
-wrong_call k _ _ (WrongCall.here l ls f) =
-    rw (unfound (found_in l).found (λ e. f (found_call l e))) (ap Refused (omega arith))
-wrong_call k _ _ (WrongCall.later n l ls is w) =
-    rw (call-is l is) (wrong_call (suc k) n ls w ∙ ap Refused (omega arith))
+wrong_call : (v : SparkleVariant) (k n : ℕ) (ls : List (List ℕ)) → WrongCall n ls → check_calls v k ls ≡ refuse (k + n)
+wrong_call v k _ _ (WrongCall.here l ls f) =
+    no_call v k l ls (unfound (found_in l) (λ g e. f (found_call l g e))) ∙ ap refuse (omega arith)
+wrong_call v k _ _ (WrongCall.later n l ls is w) =
+    let g = call-is l is in
+    one_call v k l ls g.0 g.1 ∙ wrong_call v (suc k) n ls w ∙ ap refuse (omega arith)
 
-refused-call : (k m : ℕ) (ls : List (List ℕ)) → check_calls k ls ≡ Refused m
+refused-call : (v : SparkleVariant) (k m : ℕ) (ls : List (List ℕ)) → check_calls v k ls ≡ refuse m
     → (n : ℕ) × (m ≡ k + n) × WrongCall n ls
 unfolding check_calls
-refused-call k m [] h = absurd (refused-accepted m (sym h))
-refused-call k m (l ∷ ls) h = go (refused-call (suc k) m ls) (found_in l).found refl
+refused-call v k m [] h = absurd (refused-accepted m v (sym h))
+refused-call v k m (l ∷ ls) h = go (refused-call v (suc k) m ls) (found_in l) refl
   where
-    go : (check_calls (suc k) ls ≡ Refused m → (n : ℕ) × (m ≡ suc k + n) × WrongCall n ls)
-        → (t : Bool) → (found_in l).found ≡ t
+    go : (check_calls v (suc k) ls ≡ refuse m → (n : ℕ) × (m ≡ suc k + n) × WrongCall n ls)
+        → (o : Option Found) → found_in l ≡ o
         → (n : ℕ) × (m ≡ k + n) × WrongCall n (l ∷ ls)
-    go f true e =
-        let g = f (rw e at h) in
-        (suc g.0, omega arith, WrongCall.later g.0 l ls (found_call l e) g.2)
-    go f false e =
-        let g : k ≡ m = same-refused (rw e at h) in
-        (0, omega arith, WrongCall.here l ls (λ is. not_found_lem (found_in l).found e (call-is l is)))
+    go g (Some f) e =
+        let r = g (sym (one_call v k l ls f e) ∙ h) in
+        (suc r.0, omega arith, WrongCall.later r.0 l ls (found_call l f e) r.2)
+    go g None e =
+        let r : k ≡ m = same-refused (sym (no_call v k l ls e) ∙ h) in
+        (0, omega arith, WrongCall.here l ls (λ is. let f = call-is l is in not_found_lem (found_in l) f.0 e f.1))
 
-wrong_line : (m : ℕ) (ls : List (List ℕ)) → WrongLine m ls → check_lines ls ≡ Refused m
+wrong_line : (m : ℕ) (ls : List (List ℕ)) → WrongLine m ls → check_lines ls ≡ refuse m
+unfolding check_lines
 wrong_line _ _ WrongLine.no_line = refl
-wrong_line _ _ (WrongLine.no_variant l ls f) = rw (unfound (variant_found l).found (λ e. f (found_variant l e))) refl
-wrong_line _ _ (WrongLine.no_call n l ls is w) = rw (variant_is l is) (wrong_call 2 n ls w)
+wrong_line _ _ (WrongLine.no_variant l ls f) =
+    no_variant l ls (unfound (read_variant l) (λ v e. f (found_variant l v e)))
+wrong_line _ _ (WrongLine.no_call n l ls is w) =
+    let v = variant_is l is in
+    one_variant l ls v.0 v.1 ∙ wrong_call v.0 2 n ls w
 
-refused-line : (m : ℕ) (ls : List (List ℕ)) → check_lines ls ≡ Refused m → WrongLine m ls
+refused-line : (m : ℕ) (ls : List (List ℕ)) → check_lines ls ≡ refuse m → WrongLine m ls
+unfolding check_lines
 refused-line m [] h = rw (same-refused (sym h)) WrongLine.no_line
-refused-line m (l ∷ ls) h = go (variant_found l).found refl
+refused-line m (l ∷ ls) h = go (read_variant l) refl
   where
-    go : (t : Bool) → (variant_found l).found ≡ t → WrongLine m (l ∷ ls)
-    go true e =
-        let g = refused-call 2 m ls (rw e at h) in
-        rw g.1 (WrongLine.no_call g.0 l ls (found_variant l e) g.2)
-    go false e =
-        rw (same-refused (sym (rw e at h)))
-        (WrongLine.no_variant l ls (λ is. not_found_lem (variant_found l).found e (variant_is l is)))
+    go : (o : Option SparkleVariant) → read_variant l ≡ o → WrongLine m (l ∷ ls)
+    go (Some v) e =
+        let g = refused-call v 2 m ls (sym (one_variant l ls v e) ∙ h) in
+        rw g.1 (WrongLine.no_call g.0 l ls (found_variant l v e) g.2)
+    go None e =
+        rw (same-refused (sym h ∙ no_variant l ls e))
+        (WrongLine.no_variant l ls (λ is. let v = variant_is l is in not_found_lem (read_variant l) v.0 e v.1))
 
 pub written-accepted : (file : List ℕ) (v : SparkleVariant) (calls : List Call) → Written v calls file
-    → check_file file ≡ Accepted
+    → check_file file ≡ Ok v
 written-accepted file v calls w =
     short_file file w.file_size ∙ ap check_lines (written-lines file v calls w) ∙ list-accepted v calls w.in-limits
 
@@ -329,19 +350,19 @@ file-accepted file v calls = (read, written)
     read : read_file file ≡ list v calls → Written v calls file
     read e =
         let g = read-list (lines_of file) (check_file file) v calls e in
-        let s = accepted_short file g.0 in
-        let a = accepted-list (lines_of file) (sym (short_file file s) ∙ g.0) in
-        lines-written file v calls s (rw g.2 at a.0) (rw (g.1, g.2) at a.1)
+        let s = accepted_short file v g.0 in
+        let a = accepted-list v (lines_of file) (sym (short_file file s) ∙ g.0) in
+        lines-written file v calls s (rw g.1 at a.0) (rw g.1 at a.1)
 
     written : Written v calls file → read_file file ≡ list v calls
     written w =
         let e = written-lines file v calls w in
-        rw (written-accepted file v calls w, e) (ap₂ list (variant_found_lem v).1 (calls-read calls w.in-limits))
+        rw (written-accepted file v calls w, e) (ap (list v) (calls-read calls w.in-limits))
 
 refused_why : (file : List ℕ) (k : ℕ) → read_file file ≡ refused k → Why file k
 refused_why file k e = go (size file)
   where
-    check : check_file file ≡ Refused k
+    check : check_file file ≡ refuse k
     check = refused-check file k e
 
     go : Size file → Why file k

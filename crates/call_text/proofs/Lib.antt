@@ -2,7 +2,7 @@
 -- Claims: what document 02 says (2026-01), sentence by sentence. Examples: lines and files in full.
 -- ShapeLaws, LineLaws: `read_exactly` and `variant_exactly`, which call and which variant a line stands for.
 -- LinesLaws, FileLaws: `file-accepted`, `file_too_long` and `file_wrong`, what a file is read as.
--- LineBound, RunLaws: `printed-list` and `printed-refusal`, what is printed.
+-- RunLaws: `printed-list` and `printed-refusal`, what is printed.
 -- TwelveAlone: no call of an engine answers with 12.
 -- LineSteps, ListSteps, RunSteps: what the proofs of the functions share.
 pub mod ShapeLaws
@@ -10,7 +10,6 @@ pub mod LineLaws
 pub mod LinesLaws
 pub mod FileLaws
 pub mod TwelveAlone
-pub mod LineBound
 pub mod LineSteps
 pub mod ListSteps
 pub mod RunSteps

@@ -7,7 +7,9 @@ use mathlib.Core.List.Memᴰ
 use mathlib.Core.List.Memᴰ.{head}
 use mathlib.Core.List.Memᴰ.{tail}
 use mathlib.Core.List.{List, [], ◌∷◌, ◌++◌, append_assoc, Memᴰ}
-use mathlib.Core.Option.{none, some}
+use Rattle.std.specs.Prelude.{Option, Some, None, option_map}
+use Rattle.std.specs.Option.{option_or}
+use Rattle.std.proofs.lemmas.Option.{none-some, same_Some, cond_some, option_and_then_some}
 use Prim.Native.Nat.{ℕ, zero, suc, ◌^◌, ◌≤◌, ◌<◌}
 use Prim.Native.Char.{code}
 use native.Mathlib.Omega.{arith}
@@ -31,7 +33,9 @@ use Rattle.tc_aead_cipher.specs.Variant.{number, is_variant, variant_of}
 use Rattle.tc_aead_cipher.proofs.VariantLaws.{number_is_one, variant_of_number}
 use Rattle.tc_sparkle_aead.specs.Message.{zeros}
 use Rattle.call_text.specs.CallText.{variant_text, call_text, Lent, Within}
-use Rattle.call_text.specs.Line.{is_form, item_at, number_in, shape_of, is_mark, fits, failed, fields_of, placed, found_as, found_among, all_kinds, found_in, call_found, read_call, variant_shape, variant_found, read_variant}
+use Rattle.call_text.specs.declared.line.Fields.{Fields}
+use Rattle.call_text.specs.declared.line.Found.{Found}
+use Rattle.call_text.specs.Line.{is_form, item_at, begin_at, number_in, shape_of, is_mark, fits, fields_of, placed, found_as, found_among, all_kinds, found_in, call_found, read_call, variant_shape, known, read_variant}
 use Rattle.call_text.proofs.ShapeLaws.{fill, fit, marks, good, items_in, bytes_fit, number_fit, shape-read, shape-written}
 
 -- The items that a call is written with.
@@ -109,42 +113,53 @@ module _ (s : List ℕ) where
       with_items _ _ e (λ i. k.0 i ∷ (n.0 i ∷ (t.0 i ∷ (a.0 i ∷ []))))
       (Within.of-init d (hex_bytes x) (hex_bytes y) (number_in z) (hex_bytes w) k.1 n.1 t.1 a.1)
 
-  read_as_lem : (kind : CallKind) → (found_as s kind).found ≡ true → IsLine kind (call_found s (found_as s kind))
-  unfolding found_as placed call_found is_mark
-  read_as_lem (CallKind.Init Encrypt) h =
-      let r = shape-read s (shape_of (CallKind.Init Encrypt)) refl (omega arith) h in
-      init-as Encrypt _ _ _ _ r.0 r.1
-  read_as_lem (CallKind.Init Decrypt) h =
-      let r = shape-read s (shape_of (CallKind.Init Decrypt)) refl (omega arith) h in
-      init-as Decrypt _ _ _ _ r.0 r.1
-  read_as_lem CallKind.Aad h =
-      let r = shape-read s (shape_of CallKind.Aad) refl (omega arith) h in
-      let a = bytes-then _ true r.1 in
-      with_items _ _ r.0 (λ i. a.0 i ∷ []) (Within.of_aad _ a.1)
-  read_as_lem CallKind.Data h =
-      let g = (and-eq-true_iff _ _).0 h in
-      let r = shape-read s (shape_of CallKind.Data) refl (omega arith) g.0 in
-      let a = bytes-then _ _ r.1 in
-      let n = number-then _ true a.2 in
-      with_items _ _ r.0 (λ i. a.0 i ∷ ((n.0 ∙ ap decimal (sym (zeros-length _))) i ∷ []))
-      (Within.of-data _ _ a.1 (zeros-lent _ (leb-true _ _ g.1)))
-  read_as_lem CallKind.Final h =
-      let g = (and-eq-true_iff _ _).0 h in
-      let r = shape-read s (shape_of CallKind.Final) refl (omega arith) g.0 in
+  read_placed : (kind : CallKind) (g : Fields) (f : Found) → fields_of (shape_of kind) s ≡ Some g → placed s kind g ≡ Some f
+      → IsLine kind (call_found s f)
+  unfolding placed call_found is_mark
+  read_placed (CallKind.Init Encrypt) g f a e =
+      let r = shape-read s (shape_of (CallKind.Init Encrypt)) g refl (omega arith) a in
+      rw (← same_Some _ _ e) (init-as Encrypt _ _ _ _ r.0 r.1)
+  read_placed (CallKind.Init Decrypt) g f a e =
+      let r = shape-read s (shape_of (CallKind.Init Decrypt)) g refl (omega arith) a in
+      rw (← same_Some _ _ e) (init-as Decrypt _ _ _ _ r.0 r.1)
+  read_placed CallKind.Aad g f a e =
+      let r = shape-read s (shape_of CallKind.Aad) g refl (omega arith) a in
+      let b = bytes-then _ true r.1 in
+      rw (← same_Some _ _ e) (with_items _ _ r.0 (λ i. b.0 i ∷ []) (Within.of_aad _ b.1))
+  read_placed CallKind.Data g f a e =
+      let q = cond_some _ _ f e in
+      let r = shape-read s (shape_of CallKind.Data) g refl (omega arith) a in
+      let b = bytes-then _ _ r.1 in
+      let n = number-then _ true b.2 in
+      rw (← q.1)
+      (with_items _ _ r.0 (λ i. b.0 i ∷ ((n.0 ∙ ap decimal (sym (zeros-length _))) i ∷ []))
+      (Within.of-data _ _ b.1 (zeros-lent _ (leb-true _ _ q.0))))
+  read_placed CallKind.Final g f a e =
+      let q = cond_some _ _ f e in
+      let r = shape-read s (shape_of CallKind.Final) g refl (omega arith) a in
       let n = number-then _ true r.1 in
-      with_items _ _ r.0 (λ i. (n.0 ∙ ap decimal (sym (zeros-length _))) i ∷ [])
-      (Within.of_final _ (zeros-lent _ (leb-true _ _ g.1)))
-  read_as_lem CallKind.Reset h =
-      with_items _ _ (shape-read s (shape_of CallKind.Reset) refl (omega arith) h).0 refl Within.of-reset
-  read_as_lem CallKind.Mac h = with_items _ _ (shape-read s (shape_of CallKind.Mac) refl (omega arith) h).0 refl Within.of_mac
-  read_as_lem CallKind.Update h =
-      let r = shape-read s (shape_of CallKind.Update) refl (omega arith) h in
+      rw (← q.1)
+      (with_items _ _ r.0 (λ i. (n.0 ∙ ap decimal (sym (zeros-length _))) i ∷ [])
+      (Within.of_final _ (zeros-lent _ (leb-true _ _ q.0))))
+  read_placed CallKind.Reset g f a e =
+      rw (← same_Some _ _ e)
+      (with_items _ _ (shape-read s (shape_of CallKind.Reset) g refl (omega arith) a).0 refl Within.of-reset)
+  read_placed CallKind.Mac g f a e =
+      rw (← same_Some _ _ e)
+      (with_items _ _ (shape-read s (shape_of CallKind.Mac) g refl (omega arith) a).0 refl Within.of_mac)
+  read_placed CallKind.Update g f a e =
+      let r = shape-read s (shape_of CallKind.Update) g refl (omega arith) a in
       let n = number-then _ true r.1 in
-      with_items _ _ r.0 (λ i. n.0 i ∷ []) (Within.of_update _ n.1)
-  read_as_lem CallKind.Output h =
-      let r = shape-read s (shape_of CallKind.Output) refl (omega arith) h in
+      rw (← same_Some _ _ e) (with_items _ _ r.0 (λ i. n.0 i ∷ []) (Within.of_update _ n.1))
+  read_placed CallKind.Output g f a e =
+      let r = shape-read s (shape_of CallKind.Output) g refl (omega arith) a in
       let n = number-then _ true r.1 in
-      with_items _ _ r.0 (λ i. n.0 i ∷ []) (Within.of_output _ n.1)
+      rw (← same_Some _ _ e) (with_items _ _ r.0 (λ i. n.0 i ∷ []) (Within.of_output _ n.1))
+
+  read_as_lem : (kind : CallKind) (f : Found) → found_as s kind ≡ Some f → IsLine kind (call_found s f)
+  unfolding found_as
+  read_as_lem kind f e =
+      option_and_then_some (placed s kind) (fields_of (shape_of kind) s) f e (λ g a. read_placed kind g f a)
 
 -- ---- What is written is read
 
@@ -191,55 +206,51 @@ items_fit Within.of-reset = (refl, omega arith, refl, refl)
 
 -- So its text agrees with that shape, and the items are found.
 agrees : {c : Call} → Within c
-    → ((fields_of (shape_of (kind_of c)) (call_text c)).agree ≡ true)
-    × (items_in (call_text c) (shape_of (kind_of c)) ≡ items_of c)
+    → (g : Fields) × (fields_of (shape_of (kind_of c)) (call_text c) ≡ Some g)
+    × (items_in (call_text c) g (shape_of (kind_of c)) ≡ items_of c)
 agrees {c} w =
     let f = items_fit w in
     shape-written (call_text c) (shape_of (kind_of c)) (items_of c) f.0 f.1 f.2 f.3 (text_filled c)
 
 -- It is found as a call of its kind, and is that call.
-abbrev ReadBack : Call → Type 0
-ReadBack c =
-    ((found_as (call_text c) (kind_of c)).found ≡ true) × (call_found (call_text c) (found_as (call_text c) (kind_of c)) ≡ c)
+abbrev Back : Call → Option Found → Type 0
+Back c None = ⊥
+Back c (Some f) = call_found (call_text c) f ≡ c
 
-read_back : {c : Call} → Within c → ReadBack c
+read_back : {c : Call} → Within c → Back c (found_as (call_text c) (kind_of c))
 unfolding found_as placed call_found is_mark
 read_back (Within.of-init d key nonce size header k n l h) =
     let w = Within.of-init d key nonce size header k n l h in
     let r = agrees w in
-    let e = rw (← (items_fit w).2) at r.1 in (
-      r.0,
-      (λ i.
-          Call.Init d (hex_bytes (get_or (e i) 0 [])) (hex_bytes (get_or (e i) 1 [])) (number_in (get_or (e i) 2 []))
-          (hex_bytes (get_or (e i) 3 [])))
-          ∙ (λ i. Call.Init d (hex-bytes key k i) (hex-bytes nonce n i) (number-back size l i) (hex-bytes header h i)),
-    )
+    let e = rw (← (items_fit w).2) at r.2 in
+    rw r.1
+    ((λ i.
+    Call.Init d (hex_bytes (get_or (e i) 0 [])) (hex_bytes (get_or (e i) 1 [])) (number_in (get_or (e i) 2 []))
+    (hex_bytes (get_or (e i) 3 [])))
+    ∙ (λ i. Call.Init d (hex-bytes key k i) (hex-bytes nonce n i) (number-back size l i) (hex-bytes header h i)))
 read_back (Within.of_aad input b) =
     let r = agrees (Within.of_aad input b) in
-    (r.0, (λ i. Call.Aad (hex_bytes (get_or (r.1 i) 0 []))) ∙ ap Call.Aad (hex-bytes input b))
+    rw r.1 ((λ i. Call.Aad (hex_bytes (get_or (r.2 i) 0 []))) ∙ ap Call.Aad (hex-bytes input b))
 read_back (Within.of-data input out b l) =
     let r = agrees (Within.of-data input out b l) in
-    let x = ap (λ (items : List (List ℕ)). get_or items 1 []) r.1 in
-    let n = number-back (length out) (omega (arith, l.at_most)) in (
-      rw (r.0, x, n, le-leb (length out) 32768 l.at_most) refl,
-      (λ i. Call.Data (hex_bytes (get_or (r.1 i) 0 [])) (zeros (number_in (get_or (r.1 i) 1 []))))
-          ∙ (λ i. Call.Data (hex-bytes input b i) ((ap zeros n ∙ sym l.of-zeros) i)),
-    )
+    let x = ap (λ (items : List (List ℕ)). get_or items 1 []) r.2 in
+    let n = number-back (length out) (omega (arith, l.at_most)) in
+    rw (r.1, x, n, le-leb (length out) 32768 l.at_most)
+    ((λ i. Call.Data (hex_bytes (get_or (r.2 i) 0 [])) (zeros (length out)))
+    ∙ (λ i. Call.Data (hex-bytes input b i) (sym l.of-zeros i)))
 read_back (Within.of_final out l) =
     let r = agrees (Within.of_final out l) in
-    let x = ap (λ (items : List (List ℕ)). get_or items 0 []) r.1 in
-    let n = number-back (length out) (omega (arith, l.at_most)) in (
-      rw (r.0, x, n, le-leb (length out) 32768 l.at_most) refl,
-      (λ i. Call.Final (zeros (number_in (get_or (r.1 i) 0 [])))) ∙ ap Call.Final (ap zeros n ∙ sym l.of-zeros),
-    )
+    let x = ap (λ (items : List (List ℕ)). get_or items 0 []) r.2 in
+    let n = number-back (length out) (omega (arith, l.at_most)) in
+    rw (r.1, x, n, le-leb (length out) 32768 l.at_most) (ap Call.Final (sym l.of-zeros))
 read_back (Within.of_update n l) =
     let r = agrees (Within.of_update n l) in
-    (r.0, (λ i. Call.Update (number_in (get_or (r.1 i) 0 []))) ∙ ap Call.Update (number-back n l))
+    rw r.1 ((λ i. Call.Update (number_in (get_or (r.2 i) 0 []))) ∙ ap Call.Update (number-back n l))
 read_back (Within.of_output n l) =
     let r = agrees (Within.of_output n l) in
-    (r.0, (λ i. Call.Output (number_in (get_or (r.1 i) 0 []))) ∙ ap Call.Output (number-back n l))
-read_back Within.of_mac = ((agrees Within.of_mac).0, refl)
-read_back Within.of-reset = ((agrees Within.of-reset).0, refl)
+    rw r.1 ((λ i. Call.Output (number_in (get_or (r.2 i) 0 []))) ∙ ap Call.Output (number-back n l))
+read_back Within.of_mac = rw (agrees Within.of_mac).1 refl
+read_back Within.of-reset = rw (agrees Within.of-reset).1 refl
 
 -- ---- One kind only
 
@@ -269,46 +280,43 @@ kind_filled CallKind.Output items = refl
 
 module _ (s : List ℕ) where
   -- A line that is found as a kind begins with it.
-  found_kind : (kind : CallKind) → (found_as s kind).found ≡ true → kind_in s ≡ kind
-  found_kind kind h =
-      let r = read_as_lem s kind h in
-      let c = call_found s (found_as s kind) in
+  found_kind : (kind : CallKind) (f : Found) → found_as s kind ≡ Some f → kind_in s ≡ kind
+  found_kind kind f h =
+      let r = read_as_lem s kind f h in
+      let c = call_found s f in
       ap kind_in (r.0 ∙ text_filled c) ∙ kind_filled (kind_of c) (items_of c) ∙ r.2
 
   -- The first of a list, or one of the others.
-  among : (kind : CallKind) (kinds : List CallKind) (t : Bool) → (found_as s kind).found ≡ t
-      → found_among s (kind ∷ kinds) ≡ cond t (found_as s kind) (found_among s kinds)
+  among : (kind : CallKind) (kinds : List CallKind) (o : Option Found) → found_as s kind ≡ o
+      → found_among s (kind ∷ kinds) ≡ option_or o (found_among s kinds)
   unfolding found_among
-  among kind kinds t = ap (λ (u : Bool). cond u (found_as s kind) (found_among s kinds))
+  among kind kinds o = ap (λ (p : Option Found). option_or p (found_among s kinds))
 
   -- What is found among kinds is found as one of them.
-  abbrev OneFound : List CallKind → Type 0
-  OneFound kinds = (kind : CallKind) × ((found_as s kind).found ≡ true) × (found_among s kinds ≡ found_as s kind)
-
-  found_among_lem : (kinds : List CallKind) → (found_among s kinds).found ≡ true → OneFound kinds
+  found_among_lem : (kinds : List CallKind) (f : Found) → found_among s kinds ≡ Some f
+      → (kind : CallKind) × (found_as s kind ≡ Some f)
   unfolding found_among
-  found_among_lem [] h = absurd (false≢true h)
-  found_among_lem (kind ∷ kinds) h = go (found_among_lem kinds) (found_as s kind).found refl
+  found_among_lem [] f h = absurd (none-some f h)
+  found_among_lem (kind ∷ kinds) f h = go (found_among_lem kinds f) (found_as s kind) refl
     where
-      go : ((found_among s kinds).found ≡ true → OneFound kinds) → (t : Bool) → (found_as s kind).found ≡ t
-          → OneFound (kind ∷ kinds)
-      go next true e = (kind, e, among kind kinds true e)
-      go next false e =
-          let r = next (rw (among kind kinds false e) at h) in
-          (r.0, r.1, among kind kinds false e ∙ r.2)
+      go : (found_among s kinds ≡ Some f → (kind : CallKind) × (found_as s kind ≡ Some f)) → (o : Option Found)
+          → found_as s kind ≡ o → (kind : CallKind) × (found_as s kind ≡ Some f)
+      go next (Some g) e = (kind, e ∙ sym (among kind kinds (Some g) e) ∙ h)
+      go next None e = next (sym (among kind kinds None e) ∙ h)
 
   -- A kind that is found is the one found among kinds.
-  one_found : (kind : CallKind) (kinds : List CallKind) → Memᴰ kind kinds → (found_as s kind).found ≡ true
-      → found_among s kinds ≡ found_as s kind
-  one_found kind [] m h = absurd (Memᴰ.not-nil m)
-  one_found kind (first ∷ kinds) m h =
-      go (λ n. one_found kind kinds n h) (found_as s first).found refl (Memᴰ.cases_cons m)
+  one_found : (kind : CallKind) (f : Found) (kinds : List CallKind) → Memᴰ kind kinds → found_as s kind ≡ Some f
+      → found_among s kinds ≡ Some f
+  one_found kind f [] m h = absurd (Memᴰ.not-nil m)
+  one_found kind f (first ∷ kinds) m h =
+      go (λ n. one_found kind f kinds n h) (found_as s first) refl (Memᴰ.cases_cons m)
     where
-      go : (Memᴰ kind kinds → found_among s kinds ≡ found_as s kind) → (t : Bool) → (found_as s first).found ≡ t
-          → (kind ≡ first) ⊎ Memᴰ kind kinds → found_among s (first ∷ kinds) ≡ found_as s kind
-      go next true e n = among first kinds true e ∙ ap (found_as s) (sym (found_kind first e) ∙ found_kind kind h)
-      go next false e (inl n) = absurd (false≢true (sym e ∙ ap (λ (k : CallKind). (found_as s k).found) (sym n) ∙ h))
-      go next false e (inr n) = among first kinds false e ∙ next n
+      go : (Memᴰ kind kinds → found_among s kinds ≡ Some f) → (o : Option Found) → found_as s first ≡ o
+          → (kind ≡ first) ⊎ Memᴰ kind kinds → found_among s (first ∷ kinds) ≡ Some f
+      go next (Some g) e n =
+          among first kinds (Some g) e ∙ sym e ∙ ap (found_as s) (sym (found_kind first g e) ∙ found_kind kind f h) ∙ h
+      go next None e (inl n) = absurd (none-some f (sym e ∙ ap (found_as s) (sym n) ∙ h))
+      go next None e (inr n) = among first kinds None e ∙ next n
 
 -- Every kind is looked for.
 all_kinds_lem : (kind : CallKind) → Memᴰ kind all_kinds
@@ -376,34 +384,40 @@ is-form s f = rw ((form-whole 4 s).1 f, is_form) (eq-eqb (length s) (length s) r
 
 -- ---- Calls
 
+found_back : (c : Call) (o : Option Found) → found_as (call_text c) (kind_of c) ≡ o → Back c o
+    → (f : Found) × (found_as (call_text c) (kind_of c) ≡ Some f) × (call_found (call_text c) f ≡ c)
+found_back c None e b = absurd b
+found_back c (Some f) e b = (f, e, b)
+
 -- An answer is given where a test holds.
-answered : {A : Type 0} (t : Bool) (x a : A) → (cond t (some x) none ≡ some a) ↔ ((t ≡ true) × (x ≡ a))
-answered true x a = (λ e. (refl, cc), λ p. ap some p.1)
-answered false x a = (λ e. let z : ◌≡◌ {A = ℕ} 0 1 = cc in absurd (omega arith), λ p. absurd (false≢true p.0))
+cond_some_of : {A : Type 0} (t : Bool) (o : Option A) (a : A) → cond t o None ≡ Some a → (t ≡ true) × (o ≡ Some a)
+cond_some_of true o a e = (refl, e)
+cond_some_of false o a e = absurd (none-some a e)
+
+-- The value of which another is made.
+pub made : {A B : Type 0} (g : A → B) (o : Option A) (b : B) → option_map g o ≡ Some b → (a : A) × (o ≡ Some a) × (g a ≡ b)
+made g None b e = absurd (none-some b e)
+made g (Some a) b e = (a, refl, same_Some _ _ e)
 
 -- A line is read as a call exactly where it is that call's text, within the limits.
-pub read_exactly : (s : List ℕ) (c : Call) → (read_call s ≡ some c) ↔ ((s ≡ call_text c) × Within c)
-unfolding read_call found_in placed failed
+pub read_exactly : (s : List ℕ) (c : Call) → (read_call s ≡ Some c) ↔ ((s ≡ call_text c) × Within c)
+unfolding read_call found_in
 read_exactly s c = (to, λ p. ap read_call p.0 ∙ from p.1)
   where
-    to : read_call s ≡ some c → (s ≡ call_text c) × Within c
-    to h = go (is_form s) refl ((answered (found_in s).found (call_found s (found_in s)) c).0 h)
-      where
-        go : (t : Bool) → is_form s ≡ t → ((found_in s).found ≡ true) × (call_found s (found_in s) ≡ c)
-            → (s ≡ call_text c) × Within c
-        go true e p =
-            let o = found_among_lem s all_kinds (rw e at p.0) in
-            let r = read_as_lem s o.0 o.1 in
-            let q = ap (call_found s) (sym o.2) ∙ rw e at p.1 in
-            (r.0 ∙ ap call_text q, subst Within q r.1)
-        go false e p = absurd (false≢true (rw e at p.0))
+    to : read_call s ≡ Some c → (s ≡ call_text c) × Within c
+    to h =
+        let m = made (call_found s) (found_in s) c h in
+        let q = cond_some_of (is_form s) (found_among s all_kinds) m.0 m.1 in
+        let o = found_among_lem s all_kinds m.0 q.1 in
+        let r = read_as_lem s o.0 m.0 o.1 in
+        (r.0 ∙ ap call_text m.2, subst Within m.2 r.1)
 
-    from : Within c → read_call (call_text c) ≡ some c
+    from : Within c → read_call (call_text c) ≡ Some c
     from w =
-        let f = read_back w in
+        let f = found_back c (found_as (call_text c) (kind_of c)) refl (read_back w) in
         let i = is-form (call_text c) (rw (text_filled c) (call-form w)) in
-        let o = one_found (call_text c) (kind_of c) all_kinds (all_kinds_lem (kind_of c)) f.0 in
-        rw (i, o) ((answered _ _ c).1 f)
+        let o = one_found (call_text c) (kind_of c) f.0 all_kinds (all_kinds_lem (kind_of c)) f.1 in
+        rw (i, o) (ap Some f.2)
 
 -- ---- The variant
 
@@ -433,27 +447,29 @@ variant_form v =
     (Items.item (decimal (number v)) _ (Item.number (number v)) Items.close)
 
 -- A line is read as a variant exactly where it is that variant's text.
-pub variant_exactly : (s : List ℕ) (v : SparkleVariant) → (read_variant s ≡ some v) ↔ (s ≡ variant_text v)
-unfolding read_variant variant_found variant_text is_mark
+pub variant_exactly : (s : List ℕ) (v : SparkleVariant) → (read_variant s ≡ Some v) ↔ (s ≡ variant_text v)
+unfolding read_variant variant_text is_mark
 variant_exactly s v = (to, λ e. ap read_variant e ∙ from)
   where
-    to : read_variant s ≡ some v → s ≡ variant_text v
-    to h =
-        let p = (answered (variant_found s).found (variant_found s).variant v).0 h in
-        let f = fields_of variant_shape s in
-        let x = item_at s f.d in
-        let g = (and-eq-true_iff (is_form s) (f.agree && is_variant (number_in x))).0 p.0 in
-        let a = (and-eq-true_iff f.agree (is_variant (number_in x))).0 g.1 in
-        let r = shape-read s variant_shape refl (omega arith) a.0 in
-        let n = sym (number_of_variant (number_in x) a.1) ∙ ap number p.1 in
+    of_fields : (f : Fields) → fields_of variant_shape s ≡ Some f
+        → cond (is_form s) (known (number_in (item_at s (begin_at f 3)))) None ≡ Some v → s ≡ variant_text v
+    of_fields f a e =
+        let x = item_at s (begin_at f 3) in
+        let p = cond_some_of (is_form s) (known (number_in x)) v e in
+        let q = cond_some (is_variant (number_in x)) (variant_of (number_in x)) v p.1 in
+        let r = shape-read s variant_shape f refl (omega arith) a in
+        let n = sym (number_of_variant (number_in x) q.0) ∙ ap number q.1 in
         r.0 ∙ ap (λ (y : List ℕ). text "(variant " ++ y ++ text ")") ((number-then x true r.1).0 ∙ ap decimal n)
 
-    from : read_variant (variant_text v) ≡ some v
+    to : read_variant s ≡ Some v → s ≡ variant_text v
+    to h = option_and_then_some _ (fields_of variant_shape s) v h of_fields
+
+    from : read_variant (variant_text v) ≡ Some v
     from =
         let b = number_small v in
         let x = decimal (number v) in
         let f : fit variant_shape (x ∷ []) ≡ true = rw (number_fits (number v) b) refl in
         let r = shape-written (variant_text v) variant_shape (x ∷ []) refl (omega arith) refl f refl in
-        let y = ap (λ (items : List (List ℕ)). get_or items 0 []) r.1 in
-        rw (is-form (variant_text v) (variant_form v), r.0, y, number-back (number v) b, number_is_one v)
-        (ap some (variant_of_number v))
+        let y = ap (λ (items : List (List ℕ)). get_or items 0 []) r.2 in
+        rw (r.1, is-form (variant_text v) (variant_form v), y, number-back (number v) b, number_is_one v)
+        (ap Some (variant_of_number v))

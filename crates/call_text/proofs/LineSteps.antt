@@ -1,33 +1,26 @@
 -- What the proofs of the functions on a line share: a step of each definition.
-use mathlib.Core.Path.{◌≡◌, refl, sym, ◌∙◌}
-use mathlib.Core.Bool.{Bool, true, false, cond, ◌&&◌, false≢true}
+use mathlib.Core.Path.{◌≡◌, refl, sym}
+use mathlib.Core.Bool.{true, false, false≢true}
 use mathlib.Core.List.{List, [], ◌∷◌}
 use Prim.Native.Nat.{ℕ, zero, suc, ◌+◌, ◌-◌, ◌≤◌, ◌<◌}
 use native.Mathlib.Numerals.{add-one}
 use native.Mathlib.Omega.{arith}
-use borrow.Author.Tests.{eq-eqb, ne_eqb, ltb-true, ltb-false}
-use lib.Dec.{eqb, ltb}
-use lib.ListN.{length, get_or, drop, length-take, length-drop, get_or-eq_default}
+use borrow.Author.Tests.{eq-eqb, ne_eqb}
+use lib.Dec.{eqb}
+use lib.ListN.{length, get_or, drop, length-take, length-drop, drop_of_length-le, get_or-eq_default}
 use lib.Seq.{drop-cons}
-use Rattle.forms.specs.declared.bytes.ByteKind.TheVariants.{Item}
-use Rattle.forms.specs.Bytes.{front}
+use Rattle.forms.specs.Bytes.{front, is_item}
 use Rattle.call_text.specs.declared.line.Fields.{Fields}
 use Rattle.call_text.specs.declared.line.Found.{Found}
 use Rattle.tc_aead_cipher.specs.declared.call.CallKind.{CallKind}
-use Rattle.call_text.specs.declared.line.FoundVariant.{FoundVariant}
-use Rattle.tc_aead_cipher.specs.declared.variant.SparkleVariant.{SparkleVariant}
-use Rattle.tc_aead_cipher.specs.Variant.{is_variant, variant_of}
-use Rattle.call_text.specs.Line.{variant_shape, variant_found, number_in, is_form, item_at, is_mark, fits, start, failed, past_byte, past_field, compare, compare_all, fields_of, not_found, found_as, found_among, found_in, all_kinds}
+use Rattle.std.specs.Prelude.{Option, Some, None, is_some}
+use Rattle.std.specs.Option.{option_or}
+use Rattle.call_text.specs.Line.{is_form, item_at, start, compare, compare_all, fields_of, found_as, found_among, found_in, all_kinds}
 
 -- An item ends where the line does.
 pub item-length : (s : List ℕ) (at : ℕ) → length (item_at s at) ≤ length s - at
 unfolding item_at
-item-length s at = omega (arith, length-take (front Item (drop at s)) (drop at s), length-drop at s)
-
-pub failed-same : (f : Fields) → f.agree ≡ false → failed f ≡ f
-unfolding failed
-failed-same f e =
-    λ i. record { agree = sym e i; at = f.at; a = f.a; b = f.b; c = f.c; d = f.d }
+item-length s at = omega (arith, length-take (front is_item (drop at s)) (drop at s), length-drop at s)
 
 -- A byte at a place, and none behind the line.
 pub byte_here : (s : List ℕ) (at b : ℕ) → at < length s → eqb (get_or s at 0) b ≡ eqb (get_or s at 256) b
@@ -38,98 +31,49 @@ byte_here (x ∷ s) (suc at) b h = byte_here s at b (omega arith)
 pub no_byte : (s : List ℕ) (at b : ℕ) → length s ≤ at → b < 256 → false ≡ eqb (get_or s at 256) b
 no_byte s at b h small = sym (ne_eqb (get_or s at 256) b (λ e. omega (arith, e, get_or-eq_default s 256 h)))
 
-pub byte_inside : (s : List ℕ) (at b : ℕ) → eqb (get_or s at 256) b ≡ true → b < 256 → at < length s
-byte_inside s at b e small = inside (ltb at (length s)) refl
-  where
-    inside : (t : Bool) → ltb at (length s) ≡ t → at < length s
-    inside true t = ltb-true at (length s) t
-    inside false t =
-        absurd (false≢true (no_byte s at b (ltb-false at (length s) t) small ∙ e))
-
-pub compare-done : (s : List ℕ) (f : Fields) (mark : ℕ) → f.agree ≡ false → f ≡ compare s f mark
-unfolding compare
-compare-done s f mark e = rw e refl
-
-module _ (s : List ℕ) (f : Fields) (mark : ℕ) (agree : f.agree ≡ true) where
-  pub compare_field : is_mark mark ≡ true → (item : List ℕ) → item ≡ item_at s f.at → fits mark item ≡ true
-      → past_field f (length item) ≡ compare s f mark
-  unfolding compare
-  compare_field m item e h = rw (agree, m, ← e, h) refl
-
-  pub compare_no_field : is_mark mark ≡ true → (item : List ℕ) → item ≡ item_at s f.at → fits mark item ≡ false
-      → failed f ≡ compare s f mark
-  unfolding compare
-  compare_no_field m item e h = rw (agree, m, ← e, h) refl
-
-  pub compare_byte : is_mark mark ≡ false → eqb (get_or s f.at 256) mark ≡ true → past_byte f ≡ compare s f mark
-  unfolding compare
-  compare_byte m e = rw (agree, m, e) refl
-
-  pub compare_no_byte : is_mark mark ≡ false → eqb (get_or s f.at 256) mark ≡ false → failed f ≡ compare s f mark
-  unfolding compare
-  compare_no_byte m e = rw (agree, m, e) refl
-
--- Once they differ nothing changes.
-all-failed : (s : List ℕ) (f : Fields) (shape : List ℕ) → f.agree ≡ false → compare_all s f shape ≡ f
+-- What is left of the shape, from a place on: one byte more, or a difference.
+pub compare-more : (s : List ℕ) (f g : Fields) (shape : List ℕ) (i : ℕ) → i < length shape
+    → compare s f (get_or shape i 0) ≡ Some g → compare_all s f (drop i shape) ≡ compare_all s g (drop (i + 1) shape)
 unfolding compare_all
-all-failed s f [] e = refl
-all-failed s f (mark ∷ shape) e = rw (← compare-done s f mark e, compare_all) (all-failed s f shape e)
+compare-more s f g shape i h e = rw (add-one i, drop-cons shape i 0 h, compare_all, e) refl
 
--- What is left of the shape, from a place on.
-pub compare-more : (s : List ℕ) (f : Fields) (shape : List ℕ) (i : ℕ) → i < length shape
-    → compare_all s f (drop i shape) ≡ compare_all s (compare s f (get_or shape i 0)) (drop (i + 1) shape)
+pub compare_stops : (s : List ℕ) (f : Fields) (shape : List ℕ) (i : ℕ) → i < length shape
+    → compare s f (get_or shape i 0) ≡ None → compare_all s f (drop i shape) ≡ None
 unfolding compare_all
-compare-more s f shape i h = rw (add-one i, drop-cons shape i 0 h, compare_all) refl
+compare_stops s f shape i h e = rw (drop-cons shape i 0 h, compare_all, e) refl
 
-pub fields_failed : (s : List ℕ) (f : Fields) (shape rest : List ℕ) → compare_all s start shape ≡ compare_all s f rest
-    → f.agree ≡ false → f ≡ fields_of shape s
+pub fields_differ : (s shape : List ℕ) → compare_all s start shape ≡ None → None ≡ fields_of shape s
 unfolding fields_of
-fields_failed s f shape rest e h =
-    rw (e, all-failed s f rest h, failed-same f h) (both (eqb f.at (length s)))
-  where
-    both : (t : Bool) → f ≡ cond t f f
-    both true = refl
-    both false = refl
+fields_differ s shape e = rw e refl
 
-pub fields_whole : (s : List ℕ) (f : Fields) (shape : List ℕ) → compare_all s start shape ≡ f → f.at ≡ length s
-    → f ≡ fields_of shape s
+pub fields_whole : (s : List ℕ) (f : Fields) (shape : List ℕ) → compare_all s start shape ≡ Some f → f.at ≡ length s
+    → Some f ≡ fields_of shape s
 unfolding fields_of
 fields_whole s f shape e h = rw (e, eq-eqb f.at (length s) h) refl
 
-pub fields_short : (s : List ℕ) (f : Fields) (shape : List ℕ) → compare_all s start shape ≡ f → (f.at ≡ length s → ⊥)
-    → failed f ≡ fields_of shape s
+pub fields_short : (s : List ℕ) (f : Fields) (shape : List ℕ) → compare_all s start shape ≡ Some f
+    → (f.at ≡ length s → ⊥) → None ≡ fields_of shape s
 unfolding fields_of
 fields_short s f shape e h = rw (e, ne_eqb f.at (length s) h) refl
 
--- A line that is no form, and one that is: a kind whose shape it has, or one of those behind.
-pub no-form : (s : List ℕ) → is_form s ≡ false → not_found s ≡ found_in s
+-- The kinds from a place on: the one there, where the line has its shape, or those behind it.
+pub kinds_from : (s : List ℕ) (i : ℕ) (d : CallKind) (o : Option Found) → i < 9 → o ≡ found_as s (get_or all_kinds i d)
+    → found_among s (drop i all_kinds) ≡ option_or o (found_among s (drop (i + 1) all_kinds))
+unfolding found_among
+kinds_from s i d o h e = rw (add-one i, drop-cons all_kinds i d h, found_among, ← e) refl
+
+pub is_first : {A : Type 0} (o p : Option A) → is_some o ≡ true → option_or o p ≡ o
+is_first (Some a) p e = refl
+is_first None p e = absurd (false≢true e)
+
+pub not_first : {A : Type 0} (o p : Option A) → is_some o ≡ false → option_or o p ≡ p
+not_first (Some a) p e = absurd (false≢true (sym e))
+not_first None p e = refl
+
+pub form_found : (s : List ℕ) → is_form s ≡ true → found_in s ≡ found_among s all_kinds
 unfolding found_in
-no-form s e = rw e refl
+form_found s e = rw e refl
 
-pub one_form : (s : List ℕ) → is_form s ≡ true → found_among s all_kinds ≡ found_in s
-unfolding found_in
-one_form s e = rw e refl
-
-pub found_first : (s : List ℕ) (kind : CallKind) (kinds : List CallKind) (f : Found) → f ≡ found_as s kind
-    → f.found ≡ true → f ≡ found_among s (kind ∷ kinds)
+pub none_left : (s : List ℕ) (i : ℕ) → 9 ≤ i → found_among s (drop i all_kinds) ≡ None
 unfolding found_among
-found_first s kind kinds f e h = rw (← e, h) refl
-
-pub found_later : (s : List ℕ) (kind : CallKind) (kinds : List CallKind) (f : Found) → f ≡ found_as s kind
-    → f.found ≡ false → found_among s kinds ≡ found_among s (kind ∷ kinds)
-unfolding found_among
-found_later s kind kinds f e h = rw (← e, h) refl
-
-pub found_none : (s : List ℕ) → not_found s ≡ found_among s []
-unfolding found_among
-found_none s = refl
-
--- The variant's line, from its parts.
-pub variant_parts : (s : List ℕ) (f : Fields) (item : List ℕ) (n k : ℕ) (form known both found : Bool) (v : SparkleVariant)
-    → f ≡ fields_of variant_shape s → item ≡ item_at s f.d → n ≡ number_in item
-    → (is_variant k ≡ is_variant n) × (variant_of k ≡ variant_of n)
-    → form ≡ is_form s → known ≡ is_variant k → both ≡ f.agree && known → found ≡ form && both → v ≡ variant_of k
-    → ◌≡◌ {A = FoundVariant} (record { found = found; variant = v }) (variant_found s)
-unfolding variant_found
-variant_parts s f item n k form known both found v e0 e1 e2 e3 e4 e5 e6 e7 e8 =
-    rw (← e0, ← e1, ← e2, ← e3.0, ← e3.1, ← e4, ← e5, ← e6, ← e7, ← e8) refl
+none_left s i h = rw (drop_of_length-le all_kinds {i = i} h, found_among) refl

@@ -10,30 +10,29 @@ use borrow.Author.Tests.{not-true, eqb-true}
 use lib.Dec.{eqb}
 use lib.ListN.{length, take, drop, length-append}
 use lib.Seq.{take-append_seam}
-use Rattle.forms.specs.declared.bytes.ByteKind.TheVariants.{Line}
-use Rattle.forms.specs.Bytes.{is_kind, front}
+use Rattle.forms.specs.Bytes.{front, is_line}
 use Rattle.forms.proofs.BytesLaws.{all_cons}
 use Rattle.call_text.specs.CallText.{newline, Each, IsLine, EndsFull, joined}
 use Rattle.call_text.specs.CallText.Each.{none, more}
 use Rattle.call_text.specs.List.{in_front, lines_of}
 
 -- A line that is not empty.
-abbrev pub Some : List ℕ → Type 0
-Some l = 0 < length l
+abbrev pub NotEmpty : List ℕ → Type 0
+NotEmpty l = 0 < length l
 
-pub some_full : (ls : List (List ℕ)) → Each Some ls → EndsFull ls
-some_full ls some front e = go front (subst (Each Some) e some)
+pub some_full : (ls : List (List ℕ)) → Each NotEmpty ls → EndsFull ls
+some_full ls some front e = go front (subst (Each NotEmpty) e some)
   where
-    go : (front : List (List ℕ)) → Each Some (front ++ ([] ∷ [])) → ⊥
+    go : (front : List (List ℕ)) → Each NotEmpty (front ++ ([] ∷ [])) → ⊥
     go [] (more h others) = omega arith
     go (l ∷ front) (more h others) = go front others
 
 abbrev Steps : List ℕ → Type 0
-Steps s = lines_of s ≡ take (front Line s) s ∷ lines_of (drop (suc (front Line s)) s)
+Steps s = lines_of s ≡ take (front is_line s) s ∷ lines_of (drop (suc (front is_line s)) s)
 
 -- The first line goes to the first newline, and the other lines are those behind it.
 pub lines_step : (s : List ℕ) → 0 < length s
-    → lines_of s ≡ take (front Line s) s ∷ lines_of (drop (suc (front Line s)) s)
+    → lines_of s ≡ take (front is_line s) s ∷ lines_of (drop (suc (front is_line s)) s)
 unfolding lines_of
 lines_step [] h = absurd (omega arith)
 lines_step (b ∷ []) h = go (eqb b (code "\n")) refl
@@ -66,7 +65,7 @@ lines-count (b ∷ s) = go (lines-count s) (eqb b (code "\n")) refl
     go f false e = rw e (omega (arith, front-count b (lines_of s)))
 
 -- No newline stands in a line of a file.
-line-front : (b : ℕ) (ls : List (List ℕ)) → is_kind Line b ≡ true → Each IsLine ls → Each IsLine (in_front b ls)
+line-front : (b : ℕ) (ls : List (List ℕ)) → is_line b ≡ true → Each IsLine ls → Each IsLine (in_front b ls)
 line-front b [] e none = more {l = b ∷ []} (rw e refl) none
 line-front b (l ∷ ls) e (more h others) = more {l = b ∷ l} (rw e h) others
 
@@ -85,7 +84,7 @@ line_first : (l s : List ℕ) → IsLine l → lines_of (l ++ newline ++ s) ≡ 
 unfolding lines_of
 line_first [] s h = refl
 line_first (b ∷ l) s h =
-    let g = all_cons Line b l h in
+    let g = all_cons is_line b l h in
     rw (not-true (eqb b (code "\n")) g.0) (ap (in_front b) (line_first l s g.1))
 
 -- The lines of what is joined are those that were joined.

@@ -1,7 +1,6 @@
 -- How document 02 writes a probe's day (2026-01): the variant, then call after call, one form a line.
 use Rattle.std.specs.Prelude.{ℕ, suc, ◌+◌, ◌^◌, ◌≤◌, ◌<◌, ◌≡◌, true, List, [], ◌∷◌, ◌++◌, ◌⊎◌, length}
-use Rattle.forms.specs.declared.bytes.ByteKind.TheVariants.{Line}
-use Rattle.forms.specs.Bytes.{text, all}
+use Rattle.forms.specs.Bytes.{text, all, is_line}
 use Rattle.forms.specs.Decimal.{decimal}
 use Rattle.forms.specs.Hex.{hex, are_bytes}
 use Rattle.tc_aead_cipher.specs.declared.phase.Direction.{Direction}
@@ -107,7 +106,7 @@ pub data Each (P : List ℕ → Type 0) : List (List ℕ) → Type 0 where
 
 -- No newline stands in a line.
 abbrev pub IsLine : List ℕ → Type 0
-IsLine l = all Line l ≡ true
+IsLine l = all is_line l ≡ true
 
 -- The last line is not empty.
 abbrev pub EndsFull : List (List ℕ) → Type 0

@@ -1,12 +1,9 @@
 -- A line as it is read: held against the shapes of a variant's line and of the calls. Which call a line stands for, and
 -- that it stands for no other, is `read_exactly`.
-use Rattle.std.specs.Prelude.{ℕ, ◌+◌, Bool, true, false, cond, ◌&&◌, ◌||◌, List, [], ◌∷◌, leb, eqb, length, get_or}
+use Rattle.std.specs.Prelude.{Option, Some, None, Ok, Err, is_some, unwrap_or, option_map, option_and_then, ℕ, ◌+◌, Bool, false, cond, ◌||◌, List, [], ◌∷◌, leb, eqb, length, get_or}
 use Prim.Native.Char.{code}
-use Rattle.std.proofs.Math.Option.{Option, none, some}
-use Rattle.forms.specs.declared.bytes.ByteKind.TheVariants.{Item}
-use Rattle.forms.specs.declared.decimal.Number.TheVariants.{Is, Not}
-use Rattle.forms.specs.declared.form.End.TheVariants.{Behind, Stopped}
-use Rattle.forms.specs.Bytes.{text, run_at}
+use Rattle.std.specs.Option.{option_or}
+use Rattle.forms.specs.Bytes.{text, run_at, is_item}
 use Rattle.forms.specs.Decimal.{decimal_of}
 use Rattle.forms.specs.Hex.{is_hex, hex_bytes}
 use Rattle.forms.specs.Form.{form_end}
@@ -19,18 +16,17 @@ use Rattle.tc_aead_cipher.specs.Call.{Call, call_of}
 use Rattle.tc_sparkle_aead.specs.Message.{zeros}
 use Rattle.call_text.specs.declared.line.Fields.{Fields}
 use Rattle.call_text.specs.declared.line.Found.{Found}
-use Rattle.call_text.specs.declared.line.FoundVariant.{FoundVariant}
 
 -- A line is one form and nothing else.
 unfoldable pub is_form : List ℕ → Bool
-is_form s = elim (form_end 4 s) [ Behind n ↦ eqb n (length s) | Stopped n ↦ false ]
+is_form s = elim (form_end 4 s) [ Ok n ↦ eqb n (length s) | Err e ↦ false ]
 
 -- The item that begins at a place, and the number that an item is, or 0.
 unfoldable pub item_at : List ℕ → ℕ → List ℕ
-item_at s at = run_at Item s at
+item_at s at = run_at is_item s at
 
 unfoldable pub number_in : List ℕ → ℕ
-number_in item = elim (decimal_of item) [ Is n ↦ n | Not ↦ 0 ]
+number_in item = unwrap_or (decimal_of item) 0
 
 -- ---- Shapes
 
@@ -53,105 +49,92 @@ unfoldable pub is_mark : ℕ → Bool
 is_mark m = eqb m (code "#") || eqb m (code "%")
 
 unfoldable pub fits : (mark : ℕ) → (item : List ℕ) → Bool
-fits mark item = cond (eqb mark (code "#")) (is_hex item) (elim (decimal_of item) [ Is n ↦ true | Not ↦ false ])
+fits mark item = cond (eqb mark (code "#")) (is_hex item) (is_some (decimal_of item))
+
+-- The place of one of the last four fields.
+abbrev pub begin_at : Fields → ℕ → ℕ
+begin_at f i = get_or f.begin i 0
 
 unfoldable pub start : Fields
-start = record { agree = true; at = 0; a = 0; b = 0; c = 0; d = 0 }
-
-unfoldable pub failed : Fields → Fields
-failed f = record { agree = false; at = f.at; a = f.a; b = f.b; c = f.c; d = f.d }
+start = record { at = 0; begin = 0 ∷ (0 ∷ (0 ∷ (0 ∷ []))) }
 
 -- Past a byte, and past a field, whose place is noted.
 unfoldable pub past_byte : Fields → Fields
-past_byte f = record { agree = true; at = f.at + 1; a = f.a; b = f.b; c = f.c; d = f.d }
+past_byte f = record { at = f.at + 1; begin = f.begin }
 
 unfoldable pub past_field : Fields → ℕ → Fields
-past_field f n = record { agree = true; at = f.at + n; a = f.b; b = f.c; c = f.d; d = f.at }
+past_field f n =
+    record { at = f.at + n; begin = begin_at f 1 ∷ (begin_at f 2 ∷ (begin_at f 3 ∷ (f.at ∷ []))) }
 
 -- One byte of a shape held against the line.
-unfoldable pub compare : List ℕ → Fields → ℕ → Fields
+unfoldable pub compare : List ℕ → Fields → ℕ → Option Fields
 compare s f mark =
     let item = item_at s f.at in
-    cond f.agree
-    (cond (is_mark mark) (cond (fits mark item) (past_field f (length item)) (failed f))
-    (cond (eqb (get_or s f.at 256) mark) (past_byte f) (failed f)))
-    f
+    cond (is_mark mark) (cond (fits mark item) (Some (past_field f (length item))) None)
+    (cond (eqb (get_or s f.at 256) mark) (Some (past_byte f)) None)
 
-unfoldable pub compare_all : List ℕ → Fields → (shape : List ℕ) → Fields
-compare_all s f [] = f
-compare_all s f (mark ∷ shape) = compare_all s (compare s f mark) shape
+unfoldable pub compare_all : List ℕ → Fields → (shape : List ℕ) → Option Fields
+compare_all s f [] = Some f
+compare_all s f (mark ∷ shape) = elim (compare s f mark) [ Some g ↦ compare_all s g shape | None ↦ None ]
+
+-- A place that is the line's end.
+abbrev pub at_end : List ℕ → Fields → Option Fields
+at_end s f = cond (eqb f.at (length s)) (Some f) None
 
 -- A whole line held against a shape.
-unfoldable pub fields_of : (shape s : List ℕ) → Fields
-fields_of shape s =
-    let f = compare_all s start shape in
-    cond (eqb f.at (length s)) f (failed f)
+unfoldable pub fields_of : (shape s : List ℕ) → Option Fields
+fields_of shape s = option_and_then (at_end s) (compare_all s start shape)
 
 -- ---- Calls
 
 -- A call without runs of bytes and without an output.
-abbrev pub without_runs : Bool → CallKind → ℕ → ℕ → Found
-without_runs found kind number end =
-    record { found = found; kind = kind; number = number; first = end; second = end; third = end; room = 0 }
-
-abbrev pub not_found : List ℕ → Found
-not_found s = without_runs false Mac 0 (length s)
+abbrev pub without_runs : CallKind → ℕ → ℕ → Found
+without_runs kind number end =
+    record { kind = kind; number = number; first = end; second = end; third = end; room = 0 }
 
 -- A call of a kind, from where its shape's fields begin. A run of bytes that it does not have begins at the line's end.
-unfoldable pub placed : List ℕ → CallKind → Fields → Found
+unfoldable pub placed : List ℕ → CallKind → Fields → Option Found
 placed s (Init d) f =
-    record {
-      found = f.agree;
+    Some
+    (record {
       kind = Init d;
-      number = number_in (item_at s f.c);
-      first = f.a;
-      second = f.b;
-      third = f.d;
+      number = number_in (item_at s (begin_at f 2));
+      first = begin_at f 0;
+      second = begin_at f 1;
+      third = begin_at f 3;
       room = 0;
-    }
+    })
 placed s Aad f =
-    record { found = f.agree; kind = Aad; number = 0; first = f.d; second = length s; third = length s; room = 0 }
+    Some (record { kind = Aad; number = 0; first = begin_at f 3; second = length s; third = length s; room = 0 })
 placed s Data f =
-    let n = number_in (item_at s f.d) in
-    record {
-      found = f.agree && leb n 32768;
-      kind = Data;
-      number = 0;
-      first = f.c;
-      second = length s;
-      third = length s;
-      room = n;
-    }
+    let n = number_in (item_at s (begin_at f 3)) in
+    cond (leb n 32768)
+    (Some (record { kind = Data; number = 0; first = begin_at f 2; second = length s; third = length s; room = n }))
+    None
 placed s Final f =
-    let n = number_in (item_at s f.d) in
-    record {
-      found = f.agree && leb n 32768;
-      kind = Final;
-      number = 0;
-      first = length s;
-      second = length s;
-      third = length s;
-      room = n;
-    }
-placed s Reset f = without_runs f.agree Reset 0 (length s)
-placed s Mac f = without_runs f.agree Mac 0 (length s)
-placed s Update f = without_runs f.agree Update (number_in (item_at s f.d)) (length s)
-placed s Output f = without_runs f.agree Output (number_in (item_at s f.d)) (length s)
+    let n = number_in (item_at s (begin_at f 3)) in
+    cond (leb n 32768)
+    (Some (record { kind = Final; number = 0; first = length s; second = length s; third = length s; room = n }))
+    None
+placed s Reset f = Some (without_runs Reset 0 (length s))
+placed s Mac f = Some (without_runs Mac 0 (length s))
+placed s Update f = Some (without_runs Update (number_in (item_at s (begin_at f 3))) (length s))
+placed s Output f = Some (without_runs Output (number_in (item_at s (begin_at f 3))) (length s))
 
-unfoldable pub found_as : List ℕ → CallKind → Found
-found_as s kind = placed s kind (fields_of (shape_of kind) s)
+unfoldable pub found_as : List ℕ → CallKind → Option Found
+found_as s kind = option_and_then (placed s kind) (fields_of (shape_of kind) s)
 
 -- The first kind of a list whose shape the line has.
-unfoldable pub found_among : List ℕ → List CallKind → Found
-found_among s [] = not_found s
-found_among s (kind ∷ kinds) = cond (found_as s kind).found (found_as s kind) (found_among s kinds)
+unfoldable pub found_among : List ℕ → List CallKind → Option Found
+found_among s [] = None
+found_among s (kind ∷ kinds) = option_or (found_as s kind) (found_among s kinds)
 
 abbrev pub all_kinds : List CallKind
 all_kinds =
     Init Encrypt ∷ (Init Decrypt ∷ (Aad ∷ (Data ∷ (Final ∷ (Update ∷ (Output ∷ (Mac ∷ (Reset ∷ []))))))))
 
-unfoldable pub found_in : List ℕ → Found
-found_in s = cond (is_form s) (found_among s all_kinds) (not_found s)
+unfoldable pub found_in : List ℕ → Option Found
+found_in s = cond (is_form s) (found_among s all_kinds) None
 
 -- The call that was found.
 unfoldable pub call_found : List ℕ → Found → Call
@@ -164,15 +147,14 @@ call_found s f =
 
 -- The call that a line stands for.
 unfoldable pub read_call : List ℕ → Option Call
-read_call s = cond (found_in s).found (some (call_found s (found_in s))) none
+read_call s = option_map (call_found s) (found_in s)
 
 -- ---- The variant
 
-unfoldable pub variant_found : List ℕ → FoundVariant
-variant_found s =
-    let f = fields_of variant_shape s in
-    let n = number_in (item_at s f.d) in
-    record { found = is_form s && (f.agree && is_variant n); variant = variant_of n }
+-- The variant of a number, where there is one.
+abbrev pub known : ℕ → Option SparkleVariant
+known n = cond (is_variant n) (Some (variant_of n)) None
 
 unfoldable pub read_variant : List ℕ → Option SparkleVariant
-read_variant s = cond (variant_found s).found (some (variant_found s).variant) none
+read_variant s =
+    option_and_then (λ f. cond (is_form s) (known (number_in (item_at s (begin_at f 3)))) None) (fields_of variant_shape s)

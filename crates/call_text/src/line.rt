@@ -1,34 +1,24 @@
 // A line of a call list: the variant or the call that it stands for. A line is held against the shape
 // of each call's form; where its fields begin is noted, and what they say is read from there.
-ghost use Rattle.std.specs.Prelude.{◌≡◌, ◌&&◌, leb, eqb, get_or};
-ghost use Rattle.tc_aead_cipher.specs.Variant.{is_variant, variant_of};
-ghost use Rattle.call_text.specs.Line.{is_form, item_at, number_in, is_mark, fits, failed, compare, without_runs, fields_of, shape_of, placed, found_as, found_in, variant_found};
+ghost use Rattle.std.specs.Prelude.{◌≡◌, leb, eqb, get_or, cond, Some, None};
+ghost use Rattle.call_text.specs.Line.{is_form, item_at, number_in, is_mark, fits, compare, fields_of, shape_of, placed, found_as, found_in, known, read_variant};
 
-use forms::bytes::ByteKind;
-use forms::decimal::Number;
-use forms::form::End;
 use forms::{bytes, decimal, form, hex};
 use tc_aead_cipher::call::CallKind;
 use tc_aead_cipher::phase::Direction;
-use tc_aead_cipher::variant;
 use tc_aead_cipher::variant::SparkleVariant;
 
-// How far a line agrees with a shape: whether it has agreed so far, the place reached, and where the
-// last four fields begin. A new field is noted in d, and those before it move up to c, b and a.
+// How far a line agrees with a shape: the place reached, and where the last four fields begin.
 #[derive(Clone, Copy)]
 pub struct Fields {
-    pub(crate) agree: bool,
     pub(crate) at: usize,
-    pub(crate) a: usize,
-    pub(crate) b: usize,
-    pub(crate) c: usize,
-    pub(crate) d: usize,
+    pub(crate) begin: [usize; 4],
 }
 
 // A call in its line: its kind and number, where its runs of bytes begin, and its output's length.
+// Places and not slices: so one equation says what is found, and nothing need be said of lengths.
 #[derive(Clone, Copy)]
 pub struct Found {
-    pub(crate) found: bool,
     pub(crate) kind: CallKind,
     pub(crate) number: usize,
     pub(crate) first: usize,
@@ -37,40 +27,45 @@ pub struct Found {
     pub(crate) room: usize,
 }
 
-#[derive(Clone, Copy)]
-pub struct FoundVariant {
-    pub(crate) found: bool,
-    pub(crate) variant: SparkleVariant,
-}
+// The kinds, in the order in which they are looked for.
+const KINDS: [CallKind; 9] = [
+    CallKind::Init(Direction::Encrypt),
+    CallKind::Init(Direction::Decrypt),
+    CallKind::Aad,
+    CallKind::Data,
+    CallKind::Final,
+    CallKind::Update,
+    CallKind::Output,
+    CallKind::Mac,
+    CallKind::Reset,
+];
 
 // Whether a line is one form and nothing else.
+#[tactic(auto, unfolding(crate::specs::Line::is_form))]
 fn is_form(s: &[u8]) -> bool
     ensures { result ≡ is_form s.now }
 {
-    match form::form_end(s) {
-        End::Behind(n) => n == s.len(),
-        End::Stopped(_) => false,
-    }
+    form::form_end(s).is_ok_and(|n| n == s.len())
 }
 
 // The item that begins at a place.
+#[tactic(auto, unfolding(crate::specs::Line::item_at))]
 pub(crate) fn item_at(s: &[u8], at: usize) -> &[u8]
     ensures { result.now ≡ item_at s.now at }
 {
-    bytes::run_at(ByteKind::Item, s, at)
+    bytes::run_at::<bytes::Item>(s, at)
 }
 
-// The number that an item is, or 0.
+// The number that an item is, or 0; where a number counts, `fits` has seen that it is one.
+#[tactic(auto, unfolding(crate::specs::Line::number_in))]
 fn number_in(item: &[u8]) -> usize
     ensures { result ≡ number_in item.now }
 {
-    match decimal::decimal(item) {
-        Number::Is(n) => n as usize,
-        Number::Not => 0,
-    }
+    decimal::decimal(item).unwrap_or(0) as usize
 }
 
-// Whether an item can stand at a shape's mark: bytes at `#`, a number at `%`.
+// Whether an item can stand at a shape's mark: bytes at `#`, a number at `%`. A mark is a byte and no enum,
+// since a shape is text.
 #[tactic(auto, unfolding(crate::specs::Line::fits))]
 fn fits(mark: u8, item: &[u8]) -> bool
     ensures { result ≡ fits mark item.now }
@@ -78,274 +73,172 @@ fn fits(mark: u8, item: &[u8]) -> bool
     if mark == b'#' {
         return hex::is_hex(item);
     }
-    match decimal::decimal(item) {
-        Number::Is(_) => true,
-        Number::Not => false,
-    }
+    decimal::decimal(item).is_some()
 }
 
+#[tactic(auto, unfolding(crate::specs::Line::is_mark))]
 fn is_mark(mark: u8) -> bool
     ensures { result ≡ is_mark mark }
 {
     mark == b'#' || mark == b'%'
 }
 
-fn failed(f: Fields) -> Fields
-    ensures { result ≡ failed f }
-{
-    Fields {
-        agree: false,
-        at: f.at,
-        a: f.a,
-        b: f.b,
-        c: f.c,
-        d: f.d,
-    }
-}
-
-// Whether a byte stands at a place; behind the line none does.
+// Whether a byte stands at a place; behind the line none does. The library's `get` gives a reference to be
+// compared, which is no plainer.
+#[tactic(auto, using(crate::proofs::LineSteps::byte_here, crate::proofs::LineSteps::no_byte))]
 fn byte_is(s: &[u8], at: usize, b: u8) -> bool
     ensures { result ≡ eqb (get_or s.now at 256) b }
 {
     at < s.len() && s[at] == b
 }
 
-// One byte of a shape held against the line.
-fn compare(s: &[u8], f: Fields, mark: u8) -> Fields
+// One byte of a shape held against the line. A new field is noted behind the last three.
+#[tactic(auto, unfolding(crate::specs::Line::compare, crate::specs::Line::past_byte, crate::specs::Line::past_field))]
+fn compare(s: &[u8], f: Fields, mark: u8) -> Option<Fields>
     ensures { result ≡ compare s.now f mark }
 {
-    if !f.agree {
-        return f;
-    }
     let at = f.at;
     if is_mark(mark) {
         let item = item_at(s, at);
-        if fits(mark, item) {
-            return Fields {
-                agree: true,
-                at: at + item.len(),
-                a: f.b,
-                b: f.c,
-                c: f.d,
-                d: at,
-            };
+        if !fits(mark, item) {
+            return None;
         }
-        return failed(f);
+        let [_, b, c, d] = f.begin;
+        return Some(Fields {
+            at: at + item.len(),
+            begin: [b, c, d, at],
+        });
     }
-    if byte_is(s, at, mark) {
-        return Fields {
-            agree: true,
-            at: at + 1,
-            a: f.a,
-            b: f.b,
-            c: f.c,
-            d: f.d,
-        };
+    if !byte_is(s, at, mark) {
+        return None;
     }
-    failed(f)
+    Some(Fields { at: at + 1, ..f })
 }
 
 // A whole line held against a shape.
-fn read_shape(shape: &[u8], s: &[u8]) -> Fields
+fn read_shape(shape: &[u8], s: &[u8]) -> Option<Fields>
     ensures { result ≡ fields_of shape.now s.now }
 {
     let mut f = Fields {
-        agree: true,
         at: 0,
-        a: 0,
-        b: 0,
-        c: 0,
-        d: 0,
+        begin: [0; 4],
     };
-    let mut i = 0;
-    while i < shape.len() {
-        let next = compare(s, f, shape[i]);
-        if !next.agree {
-            return next;
-        }
-        f = next;
-        i += 1;
+    for mark in shape {
+        f = compare(s, f, *mark)?;
     }
-    if f.at == s.len() { f } else { failed(f) }
+    if f.at == s.len() { Some(f) } else { None }
 }
 
-// The same for the shape of a kind's form.
-fn read_as(kind: CallKind, s: &[u8]) -> Fields
-    ensures { result ≡ fields_of (shape_of kind) s.now }
+// The shape of a kind's form.
+fn shape_of(kind: CallKind) -> &'static [u8]
+    ensures { result.now ≡ shape_of kind }
 {
     match kind {
-        CallKind::Init(d) => match d {
-            Direction::Encrypt => read_shape(
-                b"(init seal (key #) (nonce #) (tag %) (header #))",
-                s,
-            ),
-            Direction::Decrypt => read_shape(
-                b"(init open (key #) (nonce #) (tag %) (header #))",
-                s,
-            ),
-        },
-        CallKind::Aad => read_shape(b"(aad #)", s),
-        CallKind::Data => read_shape(b"(data # %)", s),
-        CallKind::Final => read_shape(b"(final %)", s),
-        CallKind::Reset => read_shape(b"(reset)", s),
-        CallKind::Mac => read_shape(b"(mac)", s),
-        CallKind::Update => read_shape(b"(update %)", s),
-        CallKind::Output => read_shape(b"(output %)", s),
+        CallKind::Init(Direction::Encrypt) => b"(init seal (key #) (nonce #) (tag %) (header #))",
+        CallKind::Init(Direction::Decrypt) => b"(init open (key #) (nonce #) (tag %) (header #))",
+        CallKind::Aad => b"(aad #)",
+        CallKind::Data => b"(data # %)",
+        CallKind::Final => b"(final %)",
+        CallKind::Reset => b"(reset)",
+        CallKind::Mac => b"(mac)",
+        CallKind::Update => b"(update %)",
+        CallKind::Output => b"(output %)",
     }
 }
 
-// A call without runs of bytes and without an output.
-fn without_runs(found: bool, kind: CallKind, number: usize, end: usize) -> Found
-    ensures { result ≡ without_runs found kind number end }
+// The length of an output that an item says, where an output may have so many bytes.
+fn room_in(item: &[u8]) -> Option<usize>
+    ensures { result ≡ cond (leb (number_in item.now) 32768) (Some (number_in item.now)) None }
 {
-    Found {
-        found,
+    let n = number_in(item);
+    if n <= 32768 { Some(n) } else { None }
+}
+
+// The call of a kind, from where its shape's fields begin.
+#[tactic(auto, unfolding(crate::specs::Line::placed))]
+fn placed(s: &[u8], kind: CallKind, f: Fields) -> Option<Found>
+    ensures { result ≡ placed s.now kind f }
+{
+    let [a, b, c, d] = f.begin;
+    let end = s.len();
+    let bare = Found {
         kind,
-        number,
+        number: 0,
         first: end,
         second: end,
         third: end,
         room: 0,
-    }
-}
-
-// Whether an output may have so many bytes.
-fn is_room(n: usize) -> bool
-    ensures { result ≡ leb n 32768 }
-{
-    n <= 32768
-}
-
-fn both(a: bool, b: bool) -> bool
-    ensures { result ≡ a && b }
-{
-    if a { b } else { false }
-}
-
-// The call of a kind, from where its shape's fields begin.
-fn placed(s: &[u8], kind: CallKind, f: Fields) -> Found
-    ensures { result ≡ placed s.now kind f }
-{
-    let end = s.len();
-    let found = f.agree;
+    };
     match kind {
-        CallKind::Init(_) => Found {
-            found,
-            kind,
-            number: number_in(item_at(s, f.c)),
-            first: f.a,
-            second: f.b,
-            third: f.d,
-            room: 0,
-        },
-        CallKind::Aad => Found {
-            found,
-            kind,
-            number: 0,
-            first: f.d,
-            second: end,
-            third: end,
-            room: 0,
-        },
+        CallKind::Init(_) => Some(Found {
+            number: number_in(item_at(s, c)),
+            first: a,
+            second: b,
+            third: d,
+            ..bare
+        }),
+        CallKind::Aad => Some(Found { first: d, ..bare }),
         CallKind::Data => {
-            let n = number_in(item_at(s, f.d));
-            Found {
-                found: both(found, is_room(n)),
-                kind,
-                number: 0,
-                first: f.c,
-                second: end,
-                third: end,
-                room: n,
-            }
+            let room = room_in(item_at(s, d))?;
+            Some(Found {
+                first: c,
+                room,
+                ..bare
+            })
         }
         CallKind::Final => {
-            let n = number_in(item_at(s, f.d));
-            Found {
-                found: both(found, is_room(n)),
-                kind,
-                number: 0,
-                first: end,
-                second: end,
-                third: end,
-                room: n,
-            }
+            let room = room_in(item_at(s, d))?;
+            Some(Found { room, ..bare })
         }
-        CallKind::Reset => without_runs(found, kind, 0, end),
-        CallKind::Mac => without_runs(found, kind, 0, end),
-        CallKind::Update => without_runs(found, kind, number_in(item_at(s, f.d)), end),
-        CallKind::Output => without_runs(found, kind, number_in(item_at(s, f.d)), end),
+        CallKind::Reset | CallKind::Mac => Some(bare),
+        CallKind::Update | CallKind::Output => Some(Found {
+            number: number_in(item_at(s, d)),
+            ..bare
+        }),
     }
 }
 
-fn found_as(s: &[u8], kind: CallKind) -> Found
+#[tactic(auto, unfolding(crate::specs::Line::found_as))]
+fn found_as(s: &[u8], kind: CallKind) -> Option<Found>
     ensures { result ≡ found_as s.now kind }
 {
-    placed(s, kind, read_as(kind, s))
+    placed(s, kind, read_shape(shape_of(kind), s)?)
 }
 
 // The call that a line stands for.
-pub(crate) fn found_in(s: &[u8]) -> Found
+#[tactic(auto, unfolding(crate::specs::Line::found_in))]
+pub(crate) fn found_in(s: &[u8]) -> Option<Found>
     ensures { result ≡ found_in s.now }
 {
-    let none = without_runs(false, CallKind::Mac, 0, s.len());
     if !is_form(s) {
-        return none;
+        return None;
     }
-    let f = found_as(s, CallKind::Init(Direction::Encrypt));
-    if f.found {
-        return f;
+    // This is a loop and not `find_map`: the check does not find this clause from that of `find_map`.
+    for kind in KINDS {
+        let found = found_as(s, kind);
+        if found.is_some() {
+            return found;
+        }
     }
-    let f = found_as(s, CallKind::Init(Direction::Decrypt));
-    if f.found {
-        return f;
-    }
-    let f = found_as(s, CallKind::Aad);
-    if f.found {
-        return f;
-    }
-    let f = found_as(s, CallKind::Data);
-    if f.found {
-        return f;
-    }
-    let f = found_as(s, CallKind::Final);
-    if f.found {
-        return f;
-    }
-    let f = found_as(s, CallKind::Update);
-    if f.found {
-        return f;
-    }
-    let f = found_as(s, CallKind::Output);
-    if f.found {
-        return f;
-    }
-    let f = found_as(s, CallKind::Mac);
-    if f.found {
-        return f;
-    }
-    let f = found_as(s, CallKind::Reset);
-    if f.found {
-        return f;
-    }
-    none
+    None
 }
 
-// A variant's number as a byte; 0, which no variant has, for a number above 4.
-fn variant_byte(n: usize) -> u8
-    ensures { (is_variant result ≡ is_variant n) × (variant_of result ≡ variant_of n) }
+// The variant of a number, where there is one.
+fn known(n: usize) -> Option<SparkleVariant>
+    ensures { result ≡ known n }
 {
-    if n <= 4 { n as u8 } else { 0 }
+    let k = u8::try_from(n).ok()?;
+    SparkleVariant::try_from(k).ok()
 }
 
 // The variant that a line stands for.
-pub(crate) fn variant_in(s: &[u8]) -> FoundVariant
-    ensures { result ≡ variant_found s.now }
+#[tactic(auto, unfolding(crate::specs::Line::read_variant))]
+pub(crate) fn variant_in(s: &[u8]) -> Option<SparkleVariant>
+    ensures { result ≡ read_variant s.now }
 {
-    let f = read_shape(b"(variant %)", s);
-    let k = variant_byte(number_in(item_at(s, f.d)));
-    FoundVariant {
-        found: both(is_form(s), both(f.agree, variant::is_variant(k))),
-        variant: variant::variant_of(k),
+    let f = read_shape(b"(variant %)", s)?;
+    if !is_form(s) {
+        return None;
     }
+    known(number_in(item_at(s, f.begin[3])))
 }

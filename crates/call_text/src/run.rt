@@ -1,23 +1,22 @@
 // The run of a file's calls on one engine, a line of the sheet at a time.
 ghost use Rattle.std.specs.Prelude.{◌≡◌, ◌<◌, ◌≤◌, length, []};
 ghost use Rattle.tc_sparkle_aead.specs.Message.{zeros};
-ghost use Rattle.dispatch.specs.Called.{called};
+ghost use Rattle.dispatch.specs.Called.{Leaves};
 ghost use Rattle.forms.specs.Hex.{hex_bytes};
 ghost use Rattle.tc_aead_cipher.specs.Call.{call_of};
 ghost use Rattle.call_text.specs.Line.{item_at, call_found};
 ghost use Rattle.call_text.specs.Run.{stopped, begin_of, next_of};
 
 use super::line::Found;
-use super::list::Checked;
 use super::{line, list};
-use dispatch::Called;
+use dispatch::Call;
 use forms::hex;
 use sheet_text::text;
 use sheet_text::text::Text;
 use tc_aead_cipher::call::CallKind;
-use tc_aead_cipher::reply;
+use tc_aead_cipher::refusal::Refusal;
 use tc_aead_cipher::variant::SparkleVariant;
-use tc_sparkle_aead::engine::SparkleEngine;
+use tc_sparkle_aead::engine::{Done, SparkleEngine};
 use tc_sparkle_aead::{aead_cipher, engine};
 
 // Where a run stands: the engine, and the place in the file.
@@ -27,87 +26,99 @@ pub struct Run {
     pub at: usize,
 }
 
-// A text to print, and the run behind it.
+// A text to print, and the run behind it. For a refused file, and where no call stands, the text is the
+// refusal or empty, and the place the file's end: any bytes get one kind of answer, and a loop ends by the
+// place.
 #[derive(Clone, Copy)]
 pub struct Shown {
     pub text: Text,
     pub run: Run,
 }
 
-fn blank() -> [u8; 32768]
-    ensures { result ≡ zeros 32768 }
+const BLANK: [u8; 32768] = [0; 32768];
+
+// The bytes of the item at a place, in front of an array that has room for them.
+fn decoded<'a>(s: &[u8], at: usize, room: &'a mut [u8; 32768]) -> &'a [u8]
+    requires { length s.now ≤ 65536 }
+    ensures { result.now ≡ hex_bytes (item_at s.now at) }
 {
-    [0; 32768]
+    let n = hex::decode(line::item_at(s, at), room);
+    &room[..n]
 }
 
+// That a line has at most 65536 bytes, and an output at most 32768, stands in each contract here: a slice
+// or a number with its bound would have to be made of each line, and would say no more.
+
 // A call with three runs of bytes and no output.
-fn call_with_runs(e: SparkleEngine, s: &[u8], f: Found) -> Called
+fn call_with_runs(e: SparkleEngine, s: &[u8], f: Found) -> Done<Result<usize, Refusal>>
     requires { length s.now ≤ 65536 }
-    ensures { result ≡ called e (call_of f.kind f.number (hex_bytes (item_at s.now f.first)) (hex_bytes (item_at s.now f.second)) (hex_bytes (item_at s.now f.third)) []) }
+    ensures { Leaves e (call_of f.kind f.number (hex_bytes (item_at s.now f.first)) (hex_bytes (item_at s.now f.second)) (hex_bytes (item_at s.now f.third)) []) result }
 {
-    let mut first = blank();
-    let mut second = blank();
-    let mut third = blank();
-    let a = hex::decode(line::item_at(s, f.first), &mut first);
-    let b = hex::decode(line::item_at(s, f.second), &mut second);
-    let c = hex::decode(line::item_at(s, f.third), &mut third);
-    let mut out = [0u8; 0];
-    let kind = f.kind;
-    dispatch::call(
-        e,
-        kind,
-        f.number,
-        &first[0..a],
-        &second[0..b],
-        &third[0..c],
-        &mut out,
-    )
+    let mut first = BLANK;
+    let mut second = BLANK;
+    let mut third = BLANK;
+    let call = Call {
+        kind: f.kind,
+        number: f.number,
+        first: decoded(s, f.first, &mut first),
+        second: decoded(s, f.second, &mut second),
+        third: decoded(s, f.third, &mut third),
+    };
+    call.make(e, &mut [])
 }
 
 // A call with a run of bytes and an output.
-fn call_with_output(e: SparkleEngine, s: &[u8], f: Found) -> Called
+fn call_with_output(e: SparkleEngine, s: &[u8], f: Found) -> Done<Result<usize, Refusal>>
     requires { (length s.now ≤ 65536) × (f.room ≤ 32768) }
-    ensures { result ≡ called e (call_of f.kind f.number (hex_bytes (item_at s.now f.first)) [] [] (zeros f.room)) }
+    ensures { Leaves e (call_of f.kind f.number (hex_bytes (item_at s.now f.first)) [] [] (zeros f.room)) result }
 {
-    let mut input = blank();
-    let a = hex::decode(line::item_at(s, f.first), &mut input);
-    let mut out = blank();
-    let n = f.room;
-    let kind = f.kind;
-    dispatch::call(e, kind, f.number, &input[0..a], b"", b"", &mut out[0..n])
+    let mut input = BLANK;
+    let mut out = BLANK;
+    let call = Call {
+        kind: f.kind,
+        number: f.number,
+        first: decoded(s, f.first, &mut input),
+        second: b"",
+        third: b"",
+    };
+    call.make(e, &mut out[..f.room])
 }
 
 // A call with a number.
-fn call_with_number(e: SparkleEngine, kind: CallKind, number: usize) -> Called
-    ensures { result ≡ called e (call_of kind number [] [] [] []) }
+fn call_with_number(e: SparkleEngine, kind: CallKind, number: usize) -> Done<Result<usize, Refusal>>
+    ensures { Leaves e (call_of kind number [] [] [] []) result }
 {
-    let mut out = [0u8; 0];
-    dispatch::call(e, kind, number, b"", b"", b"", &mut out)
+    let call = Call {
+        kind,
+        number,
+        first: b"",
+        second: b"",
+        third: b"",
+    };
+    call.make(e, &mut [])
 }
 
-// Makes the call that was found in a line.
-fn call(e: SparkleEngine, s: &[u8], f: Found) -> Called
+// Makes the call that was found in a line. A kind has its own way, so that it clears no array that it
+// does not need: one way for all would clear 128 KiB for each `(mac)`.
+fn call(e: SparkleEngine, s: &[u8], f: Found) -> Done<Result<usize, Refusal>>
     requires { (length s.now ≤ 65536) × (f.room ≤ 32768) }
-    ensures { result ≡ called e (call_found s.now f) }
+    ensures { Leaves e (call_found s.now f) result }
 {
-    let kind = f.kind;
-    match kind {
+    match f.kind {
         CallKind::Init(_) => call_with_runs(e, s, f),
-        CallKind::Aad => call_with_output(e, s, f),
-        CallKind::Data => call_with_output(e, s, f),
-        CallKind::Final => call_with_output(e, s, f),
-        CallKind::Reset => call_with_number(e, kind, f.number),
-        CallKind::Mac => call_with_number(e, kind, f.number),
-        CallKind::Update => call_with_number(e, kind, f.number),
-        CallKind::Output => call_with_number(e, kind, f.number),
+        CallKind::Aad | CallKind::Data | CallKind::Final => call_with_output(e, s, f),
+        CallKind::Reset | CallKind::Mac | CallKind::Update | CallKind::Output => call_with_number(
+            e, f.kind, f.number,
+        ),
     }
 }
 
+#[tactic(auto, unfolding(crate::specs::Run::stopped))]
 fn stopped(file: &[u8], e: SparkleEngine) -> Shown
     ensures { result ≡ stopped file.now e }
 {
     Shown {
-        text: text::empty(),
+        text: Text::new(),
         run: Run {
             engine: e,
             at: file.len(),
@@ -121,24 +132,20 @@ pub fn begin(file: &[u8]) -> Shown
     ensures { result ≡ begin_of file.now }
 {
     match list::check(file) {
-        Checked::Refused(k) => Shown {
-            text: text::refusal(reply::line_refusal(k)),
+        Err(refused) => Shown {
+            text: text::refusal(Refusal::Line(refused.line)),
             run: Run {
                 engine: engine::new(SparkleVariant::Schwaemm128_128),
                 at: file.len(),
             },
         },
-        Checked::Accepted => {
-            let first = line::variant_in(list::line_at(file, 0));
-            let v = first.variant;
-            Shown {
-                text: text::title(v),
-                run: Run {
-                    engine: engine::new(v),
-                    at: list::line_end(file, 0),
-                },
-            }
-        }
+        Ok(v) => Shown {
+            text: text::title(v),
+            run: Run {
+                engine: engine::new(v),
+                at: list::line_end(file, 0),
+            },
+        },
     }
 }
 
@@ -152,23 +159,23 @@ pub fn next(file: &[u8], run: Run) -> Shown
 {
     let e = run.engine;
     let at = run.at;
-    if 65536 < file.len() {
+    if list::FILE_BYTES < file.len() {
         return stopped(file, e);
     }
     let s = list::line_at(file, at);
-    let f = line::found_in(s);
-    if !f.found {
+    let Some(f) = line::found_in(s) else {
         return stopped(file, e);
-    }
-    let kind = f.kind;
+    };
     let c = call(e, s, f);
-    let answer = c.reply;
-    let after = c.engine;
-    let m = aead_cipher::mac(after);
     Shown {
-        text: text::line(kind, answer, aead_cipher::steps(after), m.readable),
+        text: text::line(
+            f.kind,
+            c.answer,
+            aead_cipher::steps(c.engine),
+            aead_cipher::mac(c.engine).readable,
+        ),
         run: Run {
-            engine: after,
+            engine: c.engine,
             at: list::line_end(file, at),
         },
     }

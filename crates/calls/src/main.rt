@@ -2,39 +2,32 @@
 // its calls, or `(no 12 3)` where line 3 is wrong. What is decided, `call_text` decides.
 #![tactic(auto)]
 
-ghost use Rattle.std.specs.Prelude.{◌≡◌, ◌≤◌, IfOk, length, take};
+ghost use Rattle.std.specs.Prelude.{◌≤◌, IfOk, length};
 
 use call_text::run;
 use sheet_text::text::Text;
 use std::io;
 use std::io::Read;
 
-// The first n bytes, or all where there are fewer.
-fn first(s: &[u8], n: usize) -> &[u8]
-    ensures { result.now ≡ take n s.now }
-{
-    if n <= s.len() { &s[0..n] } else { s }
-}
-
-fn show(rt: &impl Print, t: Text) -> io::Result<()> {
-    let bytes = t.bytes;
-    rt.write_all(first(&bytes, t.len))
+fn show(rt: &impl Print, t: &Text) -> io::Result<()> {
+    rt.write_all(t.as_bytes())
 }
 
 fn show_all(rt: &impl Print, file: &[u8]) -> io::Result<()> {
     let begun = run::begin(file);
-    show(rt, begun.text)?;
+    show(rt, &begun.text)?;
     let mut r = begun.run;
+    // A run goes from line to line, and lines differ in length, so the loop goes by the place.
     while r.at < file.len() {
         let shown = run::next(file, r);
-        show(rt, shown.text)?;
-        let next = shown.run;
-        r = next;
+        show(rt, &shown.text)?;
+        r = shown.run;
     }
     Ok(())
 }
 
-// Reads until the buffer is full or the input ends, and answers how many bytes it read.
+// Reads until the buffer is full or the input ends, and answers how many bytes it read. The library's
+// `read_to_end` wants a Vec, and there is no heap; its `read_exact` fails where the input ends.
 fn read_full<R: Read>(input: &mut R, buf: &mut [u8]) -> io::Result<usize>
     ensures { IfOk result (λ n. n ≤ length buf.new) }
 {
@@ -52,5 +45,5 @@ fn read_full<R: Read>(input: &mut R, buf: &mut [u8]) -> io::Result<usize>
 fn main(rt: HostRuntime) -> io::Result<()> {
     let mut file = [0u8; 65537];
     let n = read_full(&mut rt.stdin(), &mut file)?;
-    show_all(&rt, &file[0..n])
+    show_all(&rt, &file[..n])
 }

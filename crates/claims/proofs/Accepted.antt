@@ -9,6 +9,7 @@ use lib.Dec.{ltb}
 use borrow.Author.Tests.{ltb-false}
 use lib.ListN.{length, drop, length-append, length-drop, length-take}
 use lib.Seq.{take_at, drop_at}
+use Rattle.std.specs.Prelude.{Result, Ok, Err}
 use Rattle.schwaemm.specs.Blocks.{ready, given, held}
 use Rattle.schwaemm.specs.Schwaemm.{Params, crypt, prepared, sealing, opening as openingBlock, message_block, before_last, last_block, crypted, encrypt, decrypt, tag, seal, body as body_of, leading}
 use Rattle.schwaemm.proofs.Cut.{ready_bound, rest_below, length-held}
@@ -20,8 +21,7 @@ use Rattle.tc_aead_cipher.specs.declared.phase.Direction.TheVariants.{Encrypt, D
 use Rattle.tc_aead_cipher.specs.declared.phase.Phase.{Phase}
 use Rattle.tc_aead_cipher.specs.declared.phase.Phase.TheVariants.{Uninitialized, Init, Aad, Data, Final}
 use Rattle.tc_aead_cipher.specs.declared.aead_error.AeadError.TheVariants.{OutputTooShort, CiphertextTooShort, InputTooLong}
-use Rattle.tc_aead_cipher.specs.declared.aead_error.AeadResult.{AeadResult}
-use Rattle.tc_aead_cipher.specs.declared.aead_error.AeadResult.TheVariants.{Ok, Err}
+use Rattle.tc_aead_cipher.specs.declared.aead_error.AeadError.{AeadError}
 use Rattle.tc_sparkle_aead.specs.declared.message.Mac.{Mac}
 use Rattle.tc_sparkle_aead.specs.declared.engine.Steps.{Steps}
 use Rattle.tc_sparkle_aead.specs.declared.engine.SparkleEngine.{SparkleEngine}
@@ -48,11 +48,11 @@ pub record DataPassed (p : Params) (phase : Phase) (held k a n : ℕ) : Type 0 w
   pub fits : n ≤ a
 
 within_good : (sum n k : ℕ) (b : Bool) → ltb sum (2 ^ 64) ≡ b
-    → ◌≡◌ {A = AeadResult} (cond b (Ok n) (Err InputTooLong)) (Ok k) → n ≡ k
+    → ◌≡◌ {A = Result ℕ AeadError} (cond b (Ok n) (Err InputTooLong)) (Ok k) → n ≡ k
 within_good sum n k true t e = cc
 within_good sum n k false t e = absurd (let z : ◌≡◌ {A = ℕ} 0 1 = cc in omega arith)
 
-room_good : (a n k : ℕ) (b : Bool) → ltb a n ≡ b → ◌≡◌ {A = AeadResult} (cond b (Err (OutputTooShort n a)) (Ok n)) (Ok k)
+room_good : (a n k : ℕ) (b : Bool) → ltb a n ≡ b → ◌≡◌ {A = Result ℕ AeadError} (cond b (Err (OutputTooShort n a)) (Ok n)) (Ok k)
     → (n ≡ k) × (n ≤ a)
 room_good a n k true t e = absurd (let z : ◌≡◌ {A = ℕ} 0 1 = cc in omega arith)
 room_good a n k false t e = (cc, ltb-false a n t)

@@ -7,6 +7,7 @@ use native.Mathlib.Nat.{div-mul-le_self}
 use native.Mathlib.Omega.{arith}
 use borrow.Author.Tests.{le-ltb}
 use lib.ListN.{length}
+use Rattle.std.specs.Prelude.{Result, Ok, Err}
 use Rattle.schwaemm.specs.Blocks.{ready}
 use Rattle.schwaemm.specs.Schwaemm.{Params, Sizes, decrypt, seal, tag, steps, body as body_of, verified}
 use Rattle.schwaemm.proofs.Cut.{ready_bound}
@@ -16,10 +17,8 @@ use Rattle.tc_aead_cipher.specs.declared.phase.Direction.{Direction}
 use Rattle.tc_aead_cipher.specs.declared.phase.Direction.TheVariants.{Encrypt, Decrypt}
 use Rattle.tc_aead_cipher.specs.declared.phase.Phase.{Phase}
 use Rattle.tc_aead_cipher.specs.declared.phase.Phase.TheVariants.{Init, Aad}
-use Rattle.tc_aead_cipher.specs.declared.aead_error.AeadResult.{AeadResult}
-use Rattle.tc_aead_cipher.specs.declared.aead_error.AeadResult.TheVariants.{Ok, Err}
+use Rattle.tc_aead_cipher.specs.declared.aead_error.AeadError.{AeadError}
 use Rattle.tc_aead_cipher.specs.declared.aead_init_error.AeadInitError.TheVariants.{NonceReuse}
-use Rattle.tc_aead_cipher.specs.declared.aead_init_error.AeadInitResult.TheVariants.{Ok as StartOk, Err as StartErr}
 use Rattle.tc_sparkle_aead.specs.declared.message.Mac.{Mac}
 use Rattle.tc_sparkle_aead.specs.declared.engine.SparkleEngine.{SparkleEngine}
 use Rattle.tc_aead_cipher.specs.Variant.{params_of}
@@ -112,7 +111,7 @@ unfolding aad_check
 aad_passes t [] = refl
 aad_passes {phase = phase} t (x ∷ input) = aad_some phase (length input) ∙ before_data_check t
 
-aad_answered : (k : AeadResult) (e : SparkleEngine) (input : List ℕ) → k ≡ Ok 0 → (aad_by k e input).answer ≡ Ok 0
+aad_answered : (k : Result ℕ AeadError) (e : SparkleEngine) (input : List ℕ) → k ≡ Ok 0 → (aad_by k e input).answer ≡ Ok 0
 aad_answered (Ok n) e [] h = refl
 aad_answered (Ok n) e (x ∷ input) h = refl
 aad_answered (Err x) e input h = h
@@ -154,7 +153,7 @@ header_read : (v : SparkleVariant) (r : Reader) {d : Direction} → BeforeData d
     → (read v r (Call.Aad input)).reader
     ≡ reader_of r.loads r.initial (aad_phase r.phase input) (r.header ++ input) r.body
 unfolding read
-header_read v r t input = ap (λ (k : AeadResult). (read_header k r input).reader) (aad_passes t input)
+header_read v r t input = ap (λ (k : Result ℕ AeadError). (read_header k r input).reader) (aad_passes t input)
 
 headers_accepted : (v : SparkleVariant) (d : Direction) (e : SparkleEngine) (r : Reader) → Invariant v e r → BeforeData d r.phase
     → (calls : List Call) → Each HeaderCall calls → HeadersAccepted v d e r calls
@@ -196,8 +195,8 @@ data_passes : (p : Params) {d : Direction} {phase : Phase} → Active d phase �
     → data_check p phase held k a ≡ Ok n
 unfolding data_check
 data_passes p {phase = phase} t held k a n u h =
-    ap (λ (x : AeadResult). then x (λ _. then (update_len p phase held k) (room a))) (active_check t)
-    ∙ ap (λ (x : AeadResult). then x (room a)) u ∙ room_enough a n h
+    ap (λ (x : Result ℕ AeadError). then x (λ _. then (update_len p phase held k) (room a))) (active_check t)
+    ∙ ap (λ (x : Result ℕ AeadError). then x (room a)) u ∙ room_enough a n h
 
 pub update_outcome : (v : SparkleVariant) (e : SparkleEngine) (r : Reader) → Invariant v e r → (k : ℕ)
     → (step e (Call.Update k)).outcome ≡ outcome (update_len (params_of v) r.phase (reader_held (params_of v) r) k)
@@ -302,7 +301,7 @@ data-accepted v d e r w t (Call.Init d' key nonce size h ∷ calls) b rooms = ab
 data-accepted v d e r w t (Call.Aad input ∷ calls) b rooms = absurd b.0
 data-accepted v d e r w t (Call.Data input out ∷ calls) b rooms =
     let q = message_passes v e r w t input out rooms.0 in
-    let is = ap (λ (k : AeadResult). (read_message k r input).reader) q.1 in
+    let is = ap (λ (k : Result ℕ AeadError). (read_message k r input).reader) q.1 in
     let t' : Active d (read v r (Call.Data input out)).reader.phase =
     subst (λ (x : Reader). Active d x.phase) (sym is) (active_message t) in
     let body_is : (read v r (Call.Data input out)).reader.body ≡ r.body ++ input =
@@ -330,10 +329,10 @@ end_passes : (p : Params) {d : Direction} {phase : Phase} → Active d phase →
     → whole p phase held n ≡ Ok n → end_check p phase held a ≡ Ok n
 unfolding end_check
 end_passes p {phase = phase} t held a n u h q =
-    ap (λ (x : AeadResult). then x (λ _. then (then (total_len p phase held 0) (room a)) (whole p phase held)))
+    ap (λ (x : Result ℕ AeadError). then x (λ _. then (then (total_len p phase held 0) (room a)) (whole p phase held)))
     (active_check t)
-    ∙ ap (λ (x : AeadResult). then (then x (room a)) (whole p phase held)) u
-    ∙ ap (λ (x : AeadResult). then x (whole p phase held)) (room_enough a n h) ∙ q
+    ∙ ap (λ (x : Result ℕ AeadError). then (then x (room a)) (whole p phase held)) u
+    ∙ ap (λ (x : Result ℕ AeadError). then x (whole p phase held)) (room_enough a n h) ∙ q
 
 seal_passes : (v : SparkleVariant) (e : SparkleEngine) (r : Reader) → Invariant v e r → Active Encrypt r.phase
     → (out : List ℕ)
@@ -444,7 +443,7 @@ module _ (v : SparkleVariant) (before : List Call) (key nonce : List ℕ) (size 
       ∙ ap start_outcome
       (start_check-sealing v Encrypt (length key) (length nonce) size
       (repeated (reader v before) key nonce) key_fits nonce-fits size_fits refl
-      ∙ ap (λ (b : Bool). cond b (StartErr NonceReuse) StartOk) fresh)
+      ∙ ap (λ (b : Bool). cond b (Err NonceReuse) (Ok tt)) fresh)
 
   opening_starts : (step (run v before) (Call.Init Decrypt key nonce size initial)).outcome ≡ Outcome.ok 0
   opening_starts =

@@ -5,12 +5,12 @@ use mathlib.Core.Bool.{Bool, true, false, cond}
 use mathlib.Core.List.{List, [], ◌∷◌}
 use Prim.Native.Nat.{ℕ}
 use lib.ListN.{length}
+use Rattle.std.specs.Prelude.{Result, Ok, Err}
 use Rattle.schwaemm.specs.Schwaemm.{verified}
 use Rattle.tc_aead_cipher.specs.declared.variant.SparkleVariant.{SparkleVariant}
 use Rattle.tc_aead_cipher.specs.declared.phase.Phase.{Phase}
 use Rattle.tc_aead_cipher.specs.declared.phase.Phase.TheVariants.{Uninitialized, Init, Aad, Data, Final}
-use Rattle.tc_aead_cipher.specs.declared.aead_error.AeadResult.{AeadResult}
-use Rattle.tc_aead_cipher.specs.declared.aead_error.AeadResult.TheVariants.{Ok, Err}
+use Rattle.tc_aead_cipher.specs.declared.aead_error.AeadError.{AeadError}
 use Rattle.tc_sparkle_aead.specs.declared.engine.SparkleEngine.{SparkleEngine}
 use Rattle.tc_aead_cipher.specs.Variant.{params_of}
 use Rattle.tc_aead_cipher.specs.Checks.{opening, aad_check, header_check, end_check}
@@ -39,14 +39,14 @@ header-same : (phase : Phase) (e : SparkleEngine) (input : List ℕ)
     → (aad_by (aad_check phase (length input)) e input).answer ≡ aad_check phase (length input)
 header-same phase e [] = unfold aad_check in refl
 header-same phase e (x ∷ input) =
-    ap (λ (k : AeadResult). (aad_by k e (x ∷ input)).answer) (aad_some phase (length input))
+    ap (λ (k : Result ℕ AeadError). (aad_by k e (x ∷ input)).answer) (aad_some phase (length input))
     ∙ header-phase phase e x input ∙ sym (aad_some phase (length input))
 
 open_is : (g : Bool) (n : ℕ) → cond g (Outcome.ok n) (Outcome.no (6 ∷ [])) ≡ open_outcome g n
 open_is true n = refl
 open_is false n = refl
 
-end-answer : (v : SparkleVariant) (e : SparkleEngine) (r : Reader) → Invariant v e r → (out : List ℕ) (k : AeadResult)
+end-answer : (v : SparkleVariant) (e : SparkleEngine) (r : Reader) → Invariant v e r → (out : List ℕ) (k : Result ℕ AeadError)
     → end_check (params_of v) r.phase (reader_held (params_of v) r) (length out) ≡ k → (o : Bool) → opening r.phase ≡ o
     → (step e (Call.Final out)).outcome ≡ end_outcome k o (verified (params_of v) (loaded_key r) (loaded_nonce r) r.header r.body)
 end-answer v e r w out (Err x) q o is = end_refused v e r w out x q

@@ -5,6 +5,7 @@ use mathlib.Core.List.{List, [], ◌∷◌, ◌++◌}
 use Prim.Native.Nat.{ℕ, ◌≤◌}
 use native.Mathlib.Omega.{arith}
 use lib.ListN.{length, drop, length-replicate}
+use Rattle.std.specs.Prelude.{Result, Ok, Err}
 use Rattle.schwaemm.specs.Schwaemm.{tag, decrypt, seal, body as body_of, verified}
 use Rattle.tc_aead_cipher.specs.declared.variant.SparkleVariant.{SparkleVariant}
 use Rattle.tc_aead_cipher.specs.declared.phase.Direction.{Direction}
@@ -12,8 +13,6 @@ use Rattle.tc_aead_cipher.specs.declared.phase.Direction.TheVariants.{Encrypt, D
 use Rattle.tc_aead_cipher.specs.declared.phase.Phase.{Phase}
 use Rattle.tc_aead_cipher.specs.declared.phase.Phase.TheVariants.{Final}
 use Rattle.tc_aead_cipher.specs.declared.aead_error.AeadError.{AeadError}
-use Rattle.tc_aead_cipher.specs.declared.aead_error.AeadResult.{AeadResult}
-use Rattle.tc_aead_cipher.specs.declared.aead_error.AeadResult.TheVariants.{Ok, Err}
 use Rattle.tc_sparkle_aead.specs.declared.message.Mac.{Mac}
 use Rattle.tc_sparkle_aead.specs.declared.engine.Steps.{Steps}
 use Rattle.tc_sparkle_aead.specs.declared.engine.SparkleEngine.{SparkleEngine}
@@ -51,11 +50,11 @@ pub record OpenEnd (v : SparkleVariant) (r : Reader) (out : List ℕ) (n : ℕ) 
       (body_of (params_of v) r.body)) out result.buffer n
   pub bad_bytes : good ≡ false → result.buffer ≡ zeros n ++ drop n out
 
-pub outcome-ok : (k : AeadResult) (n : ℕ) → outcome k ≡ Outcome.ok n → k ≡ Ok n
+pub outcome-ok : (k : Result ℕ AeadError) (n : ℕ) → outcome k ≡ Outcome.ok n → k ≡ Ok n
 outcome-ok (Ok m) n e = let z : m ≡ n = cc in ap Ok z
 outcome-ok (Err x) n e = absurd (let z : ◌≡◌ {A = ℕ} 0 1 = cc in omega arith)
 
-data-answered : (k : AeadResult) (e : SparkleEngine) (input : List ℕ) → (data_by k e input).answer ≡ k
+data-answered : (k : Result ℕ AeadError) (e : SparkleEngine) (input : List ℕ) → (data_by k e input).answer ≡ k
 data-answered (Ok n) e input = refl
 data-answered (Err x) e input = refl
 
@@ -89,8 +88,8 @@ message_writes_next v e r w input out n o =
     subst (λ (x : SparkleEngine). Writes (released p r) (released p (read v r (Call.Data input out)).reader) out
     (process_bytes_out x input out) n)
     (sym w.same-engine)
-    (subst (λ (k : AeadResult). Writes (released p r) (released p (read_message k r input).reader) out (process_bytes_out E input out) n) (sym K)
-    (subst (λ (k : AeadResult). Writes (released p r) (released p (read_message (Ok n) r input).reader) out (data_out_by k E input out) n) (sym A)
+    (subst (λ (k : Result ℕ AeadError). Writes (released p r) (released p (read_message k r input).reader) out (process_bytes_out E input out) n) (sym K)
+    (subst (λ (k : Result ℕ AeadError). Writes (released p r) (released p (read_message (Ok n) r input).reader) out (data_out_by k E input out) n) (sym A)
     (message-writes v r.loads r.initial w.loads_fit r.header r.body w.mac w.steps t.1
     w.phase_invariant input out n
     (data_good p r.phase (reader_held p r) (length input) (length out) n K))))
@@ -190,7 +189,7 @@ module _ (v : SparkleVariant) (r : Reader) (mac : Mac) (s : Steps) (f : LoadsFit
     (st : PhaseInvariant (params_of v) r.phase r.loads r.header r.body mac)
     (out : List ℕ) (n : ℕ) (passed : end_check (params_of v) r.phase (reader_held (params_of v) r) (length out) ≡ Ok n) where
   -- the step of an end past its checks
-  abbrev result_by : AeadResult → StepResult
+  abbrev result_by : Result ℕ AeadError → StepResult
   result_by k =
       record {
         engine = (final_by k (engine_of v r mac s)).engine;
@@ -323,7 +322,7 @@ open_end_lem v e r w out n passed is-opening =
     by Decrypt t = open_step v r w.mac w.steps w.loads_fit w.phase_invariant out n passed t
 
 -- an end that is refused by its checks answers that refusal
-final_refused : (k : AeadResult) (x : AeadError) (e : SparkleEngine) → k ≡ Err x → (final_by k e).answer ≡ Err x
+final_refused : (k : Result ℕ AeadError) (x : AeadError) (e : SparkleEngine) → k ≡ Err x → (final_by k e).answer ≡ Err x
 final_refused (Ok n) x e h = absurd (let z : ◌≡◌ {A = ℕ} 0 1 = cc in omega arith)
 final_refused (Err y) x e h = h
 

@@ -6,6 +6,7 @@ use mathlib.Core.List.{List, [], ◌∷◌}
 use Prim.Native.Nat.{ℕ, ◌+◌, ◌-◌, ◌*◌, ◌^◌, ◌≤◌, ◌<◌, min}
 use native.Mathlib.Omega.{arith}
 use lib.ListN.{length, length-take, length-replicate}
+use Rattle.std.specs.Prelude.{Result, Ok, Err}
 use Rattle.schwaemm.specs.Bytes.{same}
 use Rattle.tc_aead_cipher.specs.declared.phase.Direction.{Direction}
 use Rattle.tc_aead_cipher.specs.declared.phase.Direction.TheVariants.{Encrypt, Decrypt}
@@ -14,10 +15,7 @@ use Rattle.tc_aead_cipher.specs.declared.phase.Phase.TheVariants.{Uninitialized,
 use Rattle.tc_aead_cipher.specs.declared.aead_error.AeadError.{AeadError}
 use Rattle.tc_aead_cipher.specs.declared.aead_error.AeadError.TheVariants.{NotInitialized, AlreadyFinalized, OutputTooShort}
 use Rattle.tc_aead_cipher.specs.declared.aead_error.AeadError.TheVariants.{CiphertextTooShort, InputTooLong}
-use Rattle.tc_aead_cipher.specs.declared.aead_error.AeadResult.{AeadResult}
-use Rattle.tc_aead_cipher.specs.declared.aead_error.AeadResult.TheVariants.{Ok, Err}
-use Rattle.tc_aead_cipher.specs.declared.aead_init_error.AeadInitResult.{AeadInitResult}
-use Rattle.tc_aead_cipher.specs.declared.aead_init_error.AeadInitResult.TheVariants.{Ok as StartOk, Err as StartErr}
+use Rattle.tc_aead_cipher.specs.declared.aead_init_error.AeadInitError.{AeadInitError}
 use Rattle.tc_sparkle_aead.specs.declared.engine.SparkleEngine.{SparkleEngine}
 use Rattle.tc_aead_cipher.specs.Variant.{params_of}
 use Rattle.tc_aead_cipher.specs.Checks.{opens, opening, held_data, phase_check, header_check, update_len, total_len, aad_check}
@@ -492,10 +490,10 @@ returned e c = by (step e c).outcome refl
     by (ok n) q = work_done n
     by (no r) q = numbered_refusal (refusal-numbers e c r q)
 
-start-leaves : (k : AeadInitResult) (e : SparkleEngine) (d : Direction) (key nonce header r : List ℕ)
+start-leaves : (k : Result (Unit {0}) AeadInitError) (e : SparkleEngine) (d : Direction) (key nonce header r : List ℕ)
     → start_outcome (init_by k e d key nonce header).answer ≡ no r → (init_by k e d key nonce header).engine ≡ refused e
-start-leaves StartOk e d key nonce header r q = absurd (let z : ◌≡◌ {A = ℕ} 0 1 = cc in omega arith)
-start-leaves (StartErr x) e d key nonce header r q = refl
+start-leaves (Ok _) e d key nonce header r q = absurd (let z : ◌≡◌ {A = ℕ} 0 1 = cc in omega arith)
+start-leaves (Err x) e d key nonce header r q = refl
 
 module _ (e : SparkleEngine) where
   -- A refused start leaves no message, and of what was kept only the last loaded pair.
@@ -525,13 +523,13 @@ module _ (e : SparkleEngine) where
       → Wiped e c
   start_number_leaves c n values o q = start-number c n values o (comes_back_refused e c (n ∷ values) q) q
 
-header-leaves : (k : AeadResult) (e : SparkleEngine) (input r : List ℕ) → outcome (aad_by k e input).answer ≡ no r
+header-leaves : (k : Result ℕ AeadError) (e : SparkleEngine) (input r : List ℕ) → outcome (aad_by k e input).answer ≡ no r
     → (aad_by k e input).engine ≡ e
 header-leaves (Err x) e input r q = refl
 header-leaves (Ok n) e [] r q = refl
 header-leaves (Ok n) e (x ∷ input) r q = absurd (let z : ◌≡◌ {A = ℕ} 0 1 = cc in omega arith)
 
-data-leaves : (k : AeadResult) (e : SparkleEngine) (input out r : List ℕ) → outcome (data_by k e input).answer ≡ no r
+data-leaves : (k : Result ℕ AeadError) (e : SparkleEngine) (input out r : List ℕ) → outcome (data_by k e input).answer ≡ no r
     → ((data_by k e input).engine ≡ e) × (data_out_by k e input out ≡ out)
 data-leaves (Err x) e input out r q = (refl, refl)
 data-leaves (Ok n) e input out r q = absurd (let z : ◌≡◌ {A = ℕ} 0 1 = cc in omega arith)

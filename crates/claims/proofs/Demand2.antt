@@ -8,6 +8,7 @@ use mathlib.Core.List.{List, [], ◌∷◌}
 use Prim.Native.Nat.{ℕ, ◌+◌, ◌%◌, ◌^◌, ◌≤◌, ◌<◌}
 use native.Mathlib.Omega.{arith}
 use lib.ListN.{length}
+use Rattle.std.specs.Prelude.{Result, Ok, Err}
 use Rattle.schwaemm.specs.Schwaemm.{Params, tag, verified}
 use Rattle.schwaemm.proofs.Cut.{length-held, rest_below}
 use Rattle.tc_aead_cipher.specs.declared.variant.SparkleVariant.{SparkleVariant}
@@ -15,10 +16,8 @@ use Rattle.tc_aead_cipher.specs.declared.phase.Direction.{Direction}
 use Rattle.tc_aead_cipher.specs.declared.phase.Direction.TheVariants.{Encrypt, Decrypt}
 use Rattle.tc_aead_cipher.specs.declared.phase.Phase.{Phase}
 use Rattle.tc_aead_cipher.specs.declared.phase.Phase.TheVariants.{Uninitialized, Init, Aad, Data, Final}
-use Rattle.tc_aead_cipher.specs.declared.aead_error.AeadResult.{AeadResult}
-use Rattle.tc_aead_cipher.specs.declared.aead_error.AeadResult.TheVariants.{Ok, Err}
-use Rattle.tc_aead_cipher.specs.declared.aead_init_error.AeadInitResult.{AeadInitResult}
-use Rattle.tc_aead_cipher.specs.declared.aead_init_error.AeadInitResult.TheVariants.{Ok as StartOk, Err as StartErr}
+use Rattle.tc_aead_cipher.specs.declared.aead_error.AeadError.{AeadError}
+use Rattle.tc_aead_cipher.specs.declared.aead_init_error.AeadInitError.{AeadInitError}
 use Rattle.tc_sparkle_aead.specs.declared.message.Mac.{Mac}
 use Rattle.tc_sparkle_aead.specs.declared.engine.SparkleEngine.{SparkleEngine}
 use Rattle.tc_aead_cipher.specs.Variant.{params_of}
@@ -102,7 +101,7 @@ end_tag_and_steps v calls out n passed =
     end-ended v (run v calls) (reader v calls) (invariant_run v calls) (counted-run v calls) out n passed
 
 -- What an accepted end says: its checks passed, and an opening's packet is verified.
-end_passed : (k : AeadResult) (o g : Bool) (n : ℕ) → end_outcome k o g ≡ Outcome.ok n → (k ≡ Ok n) × (cond o g true ≡ true)
+end_passed : (k : Result ℕ AeadError) (o g : Bool) (n : ℕ) → end_outcome k o g ≡ Outcome.ok n → (k ≡ Ok n) × (cond o g true ≡ true)
 end_passed (Err x) o g n e = absurd (let z : ◌≡◌ {A = ℕ} 0 1 = cc in omega arith)
 end_passed (Ok m) false g n e = (let z : m ≡ n = cc in ap Ok z, refl)
 end_passed (Ok m) true true n e = (let z : m ≡ n = cc in ap Ok z, refl)
@@ -239,12 +238,12 @@ pub steps-new : (v : SparkleVariant) → steps_now (new_engine v) ≡ 0
 unfolding steps_now new_engine no_steps
 steps-new v = refl
 
-steps-start : (k : AeadInitResult) (e : SparkleEngine) (d : Direction) (key nonce header values : List ℕ)
+steps-start : (k : Result (Unit {0}) AeadInitError) (e : SparkleEngine) (d : Direction) (key nonce header values : List ℕ)
     → start_outcome (init_by k e d key nonce header).answer ≡ Outcome.no values
     → steps_now (init_by k e d key nonce header).engine ≡ 0
 unfolding steps_now refused refused_steps no_steps
-steps-start StartOk e d key nonce header values o = absurd (let z : ◌≡◌ {A = ℕ} 0 1 = cc in omega arith)
-steps-start (StartErr x) e d key nonce header values o = refl
+steps-start (Ok _) e d key nonce header values o = absurd (let z : ◌≡◌ {A = ℕ} 0 1 = cc in omega arith)
+steps-start (Err x) e d key nonce header values o = refl
 
 pub steps_refused_start : (e : SparkleEngine) (d : Direction) (key nonce : List ℕ) (size : ℕ) (header values : List ℕ)
     → (step e (Call.Init d key nonce size header)).outcome ≡ Outcome.no values
@@ -264,7 +263,7 @@ unfolding step process_aad_bytes process_bytes do_final data_check end_check
 final_keeps e d is (Call.Init x key nonce size h) k = absurd k
 final_keeps e d is (Call.Aad []) k = unfold aad_check in refl
 final_keeps e d is (Call.Aad (x ∷ input)) k =
-    ap (λ (y : AeadResult). (aad_by y e (x ∷ input)).engine) (aad_some e.current.phase (length input) ∙ ap header_check is)
+    ap (λ (y : Result ℕ AeadError). (aad_by y e (x ∷ input)).engine) (aad_some e.current.phase (length input) ∙ ap header_check is)
 final_keeps e d is (Call.Data input out) k =
     ap (λ (x : Phase). (data_by (data_check (params_of e.variant) x e.current.held (length input) (length out)) e input).engine) is
 final_keeps e d is (Call.Final out) k =

@@ -8,16 +8,15 @@ use mathlib.Core.List.{List, [], ◌∷◌, map}
 use Prim.Native.Nat.{ℕ, zero, suc}
 use native.Mathlib.Omega.{arith}
 use lib.ListN.{length, take}
+use Rattle.std.specs.Prelude.{Result, Ok, Err}
 use Rattle.schwaemm.specs.Schwaemm.{Params, verified}
 use Rattle.tc_aead_cipher.specs.declared.variant.SparkleVariant.{SparkleVariant}
 use Rattle.tc_aead_cipher.specs.declared.phase.Direction.{Direction}
 use Rattle.tc_aead_cipher.specs.declared.phase.Direction.TheVariants.{Encrypt, Decrypt}
 use Rattle.tc_aead_cipher.specs.declared.phase.Phase.{Phase}
 use Rattle.tc_aead_cipher.specs.declared.phase.Phase.TheVariants.{Uninitialized, Init, Aad, Data, Final}
-use Rattle.tc_aead_cipher.specs.declared.aead_error.AeadResult.{AeadResult}
-use Rattle.tc_aead_cipher.specs.declared.aead_error.AeadResult.TheVariants.{Ok, Err}
-use Rattle.tc_aead_cipher.specs.declared.aead_init_error.AeadInitResult.{AeadInitResult}
-use Rattle.tc_aead_cipher.specs.declared.aead_init_error.AeadInitResult.TheVariants.{Ok as StartOk, Err as StartErr}
+use Rattle.tc_aead_cipher.specs.declared.aead_error.AeadError.{AeadError}
+use Rattle.tc_aead_cipher.specs.declared.aead_init_error.AeadInitError.{AeadInitError}
 use Rattle.tc_sparkle_aead.specs.declared.engine.SparkleEngine.{SparkleEngine}
 use Rattle.tc_aead_cipher.specs.Variant.{params_of}
 use Rattle.tc_aead_cipher.specs.Checks.{opening, held_data, whole, total_len, end_check, start_check}
@@ -99,10 +98,10 @@ pub record Linked (v : SparkleVariant) (e : SparkleEngine) (r : Reader) : Type 0
       ≡ verified (params_of v) (loaded_key r) (loaded_nonce r) r.header r.body
 
 -- a start notes by its check
-pub read_start_note : (k : AeadInitResult) (r : Reader) (d : Direction) (key nonce header : List ℕ)
+pub read_start_note : (k : Result (Unit {0}) AeadInitError) (r : Reader) (d : Direction) (key nonce header : List ℕ)
     → start_note k d (repeated r key nonce) ≡ (read_start k r d key nonce header).verdict
-read_start_note (StartErr x) r d key nonce header = refl
-read_start_note StartOk r d key nonce header = refl
+read_start_note (Err x) r d key nonce header = refl
+read_start_note (Ok _) r d key nonce header = refl
 
 -- an end's check depends on the held bytes through h
 pub end_check-held : (p : Params) (phase : Phase) (a b available : ℕ) → held_data p phase a ≡ held_data p phase b
@@ -126,18 +125,18 @@ end_note_lem p r (Data Encrypt) n available tag_right c h = refl
 end_note_lem p r (Data Decrypt) n available tag_right c h = ap verdict_of (h refl)
 end_note_lem p r (Final d) n available tag_right c h = absurd (let z : ◌≡◌ {A = ℕ} 0 1 = cc in omega arith)
 
-read_end_note : (p : Params) (r : Reader) (k : AeadResult) (available : ℕ) (tag_right : Bool)
+read_end_note : (p : Params) (r : Reader) (k : Result ℕ AeadError) (available : ℕ) (tag_right : Bool)
     → end_check p r.phase (reader_held p r) available ≡ k
     → ((n : ℕ) → k ≡ Ok n → opening r.phase ≡ true → tag_right ≡ verified p (loaded_key r) (loaded_nonce r) r.header r.body)
     → end_note k (opening r.phase) tag_right ≡ (read_end k p r).verdict
 read_end_note p r (Err x) available tag_right c h = refl
 read_end_note p r (Ok n) available tag_right c h = end_note_lem p r r.phase n available tag_right c (h n refl)
 
-read_header_note : (k : AeadResult) (r : Reader) (input : List ℕ) → (read_header k r input).verdict ≡ None
+read_header_note : (k : Result ℕ AeadError) (r : Reader) (input : List ℕ) → (read_header k r input).verdict ≡ None
 read_header_note (Err x) r input = refl
 read_header_note (Ok n) r input = refl
 
-read_message_note : (k : AeadResult) (r : Reader) (input : List ℕ) → (read_message k r input).verdict ≡ None
+read_message_note : (k : Result ℕ AeadError) (r : Reader) (input : List ℕ) → (read_message k r input).verdict ≡ None
 read_message_note (Err x) r input = refl
 read_message_note (Ok n) r input = refl
 

@@ -5,16 +5,15 @@ use mathlib.Core.List.{List, [], ◌∷◌, map}
 use Prim.Native.Nat.{ℕ, ◌%◌, ◌^◌}
 use native.Mathlib.Omega.{arith}
 use lib.ListN.{length}
+use Rattle.std.specs.Prelude.{Result, Ok, Err}
 use Rattle.schwaemm.specs.Schwaemm.{Params, steps}
 use Rattle.tc_aead_cipher.specs.declared.variant.SparkleVariant.{SparkleVariant}
 use Rattle.tc_aead_cipher.specs.declared.phase.Direction.{Direction}
 use Rattle.tc_aead_cipher.specs.declared.phase.Direction.TheVariants.{Encrypt, Decrypt}
 use Rattle.tc_aead_cipher.specs.declared.phase.Phase.{Phase}
 use Rattle.tc_aead_cipher.specs.declared.phase.Phase.TheVariants.{Uninitialized, Init, Aad, Data, Final}
-use Rattle.tc_aead_cipher.specs.declared.aead_error.AeadResult.{AeadResult}
-use Rattle.tc_aead_cipher.specs.declared.aead_error.AeadResult.TheVariants.{Ok, Err}
-use Rattle.tc_aead_cipher.specs.declared.aead_init_error.AeadInitResult.{AeadInitResult}
-use Rattle.tc_aead_cipher.specs.declared.aead_init_error.AeadInitResult.TheVariants.{Ok as StartOk, Err as StartErr}
+use Rattle.tc_aead_cipher.specs.declared.aead_error.AeadError.{AeadError}
+use Rattle.tc_aead_cipher.specs.declared.aead_init_error.AeadInitError.{AeadInitError}
 use Rattle.tc_sparkle_aead.specs.declared.engine.SparkleEngine.{SparkleEngine}
 use Rattle.tc_aead_cipher.specs.Variant.{params_of}
 use Rattle.tc_aead_cipher.specs.Checks.{aad_check, data_check, end_check, start_check}
@@ -51,11 +50,11 @@ phase-count p (Final d) old loads initial header body n before c b f = f d refl
 
 -- ---- Which calls lead to Final
 
-start_not_final : (k : AeadInitResult) (r : Reader) (d e : Direction) (key nonce h : List ℕ)
+start_not_final : (k : Result (Unit {0}) AeadInitError) (r : Reader) (d e : Direction) (key nonce h : List ℕ)
     → (read_start k r d key nonce h).reader.phase ≡ Final e → ⊥
-start_not_final (StartErr x) r d e key nonce h q = let z : ◌≡◌ {A = ℕ} 0 1 = cc in omega arith
-start_not_final StartOk r d e key nonce [] q = let z : ◌≡◌ {A = ℕ} 0 1 = cc in omega arith
-start_not_final StartOk r d e key nonce (x ∷ h) q = let z : ◌≡◌ {A = ℕ} 0 1 = cc in omega arith
+start_not_final (Err x) r d e key nonce h q = let z : ◌≡◌ {A = ℕ} 0 1 = cc in omega arith
+start_not_final (Ok _) r d e key nonce [] q = let z : ◌≡◌ {A = ℕ} 0 1 = cc in omega arith
+start_not_final (Ok _) r d e key nonce (x ∷ h) q = let z : ◌≡◌ {A = ℕ} 0 1 = cc in omega arith
 
 aad_final : (phase : Phase) (input : List ℕ) (d : Direction) → aad_phase phase input ≡ Final d → phase ≡ Final d
 aad_final phase [] d q = q
@@ -65,7 +64,7 @@ aad_final (Aad e) (x ∷ input) d q = q
 aad_final (Data e) (x ∷ input) d q = q
 aad_final (Final e) (x ∷ input) d q = q
 
-header_final : (k : AeadResult) (r : Reader) (input : List ℕ) (d : Direction)
+header_final : (k : Result ℕ AeadError) (r : Reader) (input : List ℕ) (d : Direction)
     → (read_header k r input).reader.phase ≡ Final d → r.phase ≡ Final d
 header_final (Err x) r input d q = q
 header_final (Ok n) r input d q = aad_final r.phase input d q
@@ -77,7 +76,7 @@ data_final (Aad e) d q = cc
 data_final (Data e) d q = q
 data_final (Final e) d q = q
 
-message_final : (k : AeadResult) (r : Reader) (input : List ℕ) (d : Direction)
+message_final : (k : Result ℕ AeadError) (r : Reader) (input : List ℕ) (d : Direction)
     → (read_message k r input).reader.phase ≡ Final d → r.phase ≡ Final d
 message_final (Err x) r input d q = q
 message_final (Ok n) r input d q = data_final r.phase d q
@@ -128,7 +127,7 @@ module _ (v : SparkleVariant) (e : SparkleEngine) (r : Reader) (w : Invariant v 
       ∙ phase_agrees (params_of v) (loaded_key r) (loaded_nonce r) r.header r.body r.phase ∙ q)
       c k)
 
-  end_in_final : (out : List ℕ) (d : Direction) (k : AeadResult)
+  end_in_final : (out : List ℕ) (d : Direction) (k : Result ℕ AeadError)
       → end_check (params_of v) r.phase (reader_held (params_of v) r) (length out) ≡ k
       → (read_end k (params_of v) r).reader.phase ≡ Final d
       → steps_now (step e (Call.Final out)).engine

@@ -6,11 +6,12 @@ use mathlib.Core.List.{List, [], ◌∷◌, ◌++◌, append_assoc, append-nil}
 use Prim.Native.Nat.{ℕ}
 use native.Mathlib.Omega.{arith}
 use lib.ListN.{length}
+use Rattle.std.specs.Prelude.{Result}
 use Rattle.schwaemm.specs.Schwaemm.{seal, decrypt, body}
 use Rattle.tc_aead_cipher.specs.declared.variant.SparkleVariant.{SparkleVariant}
 use Rattle.tc_aead_cipher.specs.declared.phase.Direction.{Direction}
 use Rattle.tc_aead_cipher.specs.declared.phase.Direction.TheVariants.{Encrypt, Decrypt}
-use Rattle.tc_aead_cipher.specs.declared.aead_error.AeadResult.{AeadResult}
+use Rattle.tc_aead_cipher.specs.declared.aead_error.AeadError.{AeadError}
 use Rattle.tc_sparkle_aead.specs.declared.engine.SparkleEngine.{SparkleEngine}
 use Rattle.tc_aead_cipher.specs.Variant.{params_of}
 use Rattle.tc_aead_cipher.specs.Checks.{data_check}
@@ -68,7 +69,7 @@ message-read v e r w input out n q =
     sym (answered v e r (linked v e r w) (Call.Data input out) (λ h. let z : ◌≡◌ {A = ℕ} 0 1 = cc in omega arith)) ∙ q
     in
     let c = outcome-ok (data_check p r.phase (reader_held p r) (length input) (length out)) n a in
-    (ap (λ (k : AeadResult). (read_message k r input).reader.header) c, ap (λ (k : AeadResult). (read_message k r input).reader.body) c)
+    (ap (λ (k : Result ℕ AeadError). (read_message k r input).reader.header) c, ap (λ (k : Result ℕ AeadError). (read_message k r input).reader.body) c)
 
 -- what data calls and an end without refusal leave
 record PiecesAccepted (v : SparkleVariant) (pieces : List Piece) (out : List ℕ) (e : SparkleEngine) (r : Reader) : Type 0 where

@@ -9,6 +9,7 @@ use native.Mathlib.Omega.{arith}
 use lib.Dec.{ltb}
 use borrow.Author.Tests.{ltb-false}
 use lib.ListN.{length, take, length-take}
+use Rattle.std.specs.Prelude.{Result, Ok, Err}
 use Rattle.schwaemm.specs.Bytes.{same, if_empty}
 use Rattle.schwaemm.specs.Blocks.{ready, after, given, held}
 use Rattle.schwaemm.specs.Schwaemm.{Params, Sizes, mix_last, initialise, absorb_block, absorb, prepared, message_block, decrypt, tag, body as body_of, verified, leading}
@@ -20,8 +21,7 @@ use Rattle.tc_aead_cipher.specs.declared.phase.Direction.TheVariants.{Encrypt, D
 use Rattle.tc_aead_cipher.specs.declared.phase.Phase.{Phase}
 use Rattle.tc_aead_cipher.specs.declared.phase.Phase.TheVariants.{Uninitialized, Init, Aad, Data, Final}
 use Rattle.tc_aead_cipher.specs.declared.aead_error.AeadError.TheVariants.{CiphertextTooShort}
-use Rattle.tc_aead_cipher.specs.declared.aead_error.AeadResult.{AeadResult}
-use Rattle.tc_aead_cipher.specs.declared.aead_error.AeadResult.TheVariants.{Ok, Err}
+use Rattle.tc_aead_cipher.specs.declared.aead_error.AeadError.{AeadError}
 use Rattle.tc_sparkle_aead.specs.declared.message.Point.{Point}
 use Rattle.tc_sparkle_aead.specs.declared.engine.Pair.{Pair}
 use Rattle.tc_sparkle_aead.specs.declared.message.Mac.{Mac}
@@ -402,12 +402,12 @@ module _ (p : Params) (key nonce header body : List ℕ) where
 
 -- ---- What a passed check says
 
-pub then_good : (x : AeadResult) (g : ℕ → AeadResult) (k : ℕ) → then x g ≡ Ok k → (j : ℕ) × (x ≡ Ok j) × (g j ≡ Ok k)
+pub then_good : (x : Result ℕ AeadError) (g : ℕ → Result ℕ AeadError) (k : ℕ) → then x g ≡ Ok k → (j : ℕ) × (x ≡ Ok j) × (g j ≡ Ok k)
 then_good (Ok j) g k e = (j, refl, e)
 then_good (Err x) g k e = absurd (let z : ◌≡◌ {A = ℕ} 0 1 = cc in omega arith)
 
 whole_good : (p : Params) (held n k : ℕ) (b : Bool) → ltb held p.key ≡ b
-    → ◌≡◌ {A = AeadResult} (cond b (Err (CiphertextTooShort p.key held)) (Ok n)) (Ok k) → p.key ≤ held
+    → ◌≡◌ {A = Result ℕ AeadError} (cond b (Err (CiphertextTooShort p.key held)) (Ok n)) (Ok k) → p.key ≤ held
 whole_good p held n k true t e = absurd (let z : ◌≡◌ {A = ℕ} 0 1 = cc in omega arith)
 whole_good p held n k false t e = ltb-false held p.key t
 

@@ -7,6 +7,7 @@ use Prim.Native.Nat.{ℕ, suc, ◌*◌, ◌≤◌, ◌<◌}
 use native.Mathlib.Omega.{arith}
 use borrow.Author.Tests.{ne_eqb}
 use lib.ListN.{length, length-append}
+use Rattle.std.specs.Prelude.{Result, Ok, Err}
 use Rattle.schwaemm.specs.Bytes.{same}
 use Rattle.schwaemm.specs.Blocks.{held}
 use Rattle.schwaemm.specs.Schwaemm.{Params, Sizes, crypt, prepared, sealing, opening as openingBlock, before_last, last_block, tag_of, decrypt, tag, body as body_of, verified, leading}
@@ -15,10 +16,8 @@ use Rattle.tc_aead_cipher.specs.declared.phase.Direction.{Direction}
 use Rattle.tc_aead_cipher.specs.declared.phase.Direction.TheVariants.{Encrypt, Decrypt}
 use Rattle.tc_aead_cipher.specs.declared.phase.Phase.{Phase}
 use Rattle.tc_aead_cipher.specs.declared.phase.Phase.TheVariants.{Uninitialized, Init, Aad, Data, Final}
-use Rattle.tc_aead_cipher.specs.declared.aead_error.AeadResult.{AeadResult}
-use Rattle.tc_aead_cipher.specs.declared.aead_error.AeadResult.TheVariants.{Ok, Err}
-use Rattle.tc_aead_cipher.specs.declared.aead_init_error.AeadInitResult.{AeadInitResult}
-use Rattle.tc_aead_cipher.specs.declared.aead_init_error.AeadInitResult.TheVariants.{Ok as StartOk, Err as StartErr}
+use Rattle.tc_aead_cipher.specs.declared.aead_error.AeadError.{AeadError}
+use Rattle.tc_aead_cipher.specs.declared.aead_init_error.AeadInitError.{AeadInitError}
 use Rattle.tc_sparkle_aead.specs.declared.message.Mac.{Mac}
 use Rattle.tc_sparkle_aead.specs.declared.engine.Steps.{Steps}
 use Rattle.tc_sparkle_aead.specs.declared.engine.SparkleEngine.{SparkleEngine}
@@ -247,7 +246,7 @@ module _ (v : SparkleVariant) where
           }
 
       data-keeps : {phase : Phase} {d : Direction} → Active d phase → (header body : List ℕ) (mac : Mac) (s : Steps)
-          → PhaseInvariant p phase loads header body mac → (input : List ℕ) (k : AeadResult)
+          → PhaseInvariant p phase loads header body mac → (input : List ℕ) (k : Result ℕ AeadError)
           → Invariant v (data_by k (engine_of v (reader_in phase header body) mac s) input).engine
           (read_message k (reader_in phase header body) input).reader
       data-keeps t header body mac s st input (Err x) =
@@ -355,7 +354,7 @@ module _ (v : SparkleVariant) where
             }
 
       seal-keeps : {phase : Phase} → Active Encrypt phase → (header body : List ℕ) (mac : Mac) (s : Steps)
-          → PhaseInvariant p phase loads header body mac → (k : AeadResult)
+          → PhaseInvariant p phase loads header body mac → (k : Result ℕ AeadError)
           → Invariant v (final_by k (engine_of v (reader_in phase header body) mac s)).engine
           (read_end k p (reader_in phase header body)).reader
       unfolding head_point data_point block_point
@@ -369,7 +368,7 @@ module _ (v : SparkleVariant) where
           sealed_keeps st.0 header body _ k _ (begin_data_lem {d = Encrypt} in-data header body mac s st)
 
       open_keeps : {phase : Phase} → Active Decrypt phase → (header body : List ℕ) (mac : Mac) (s : Steps)
-          → PhaseInvariant p phase loads header body mac → (k : AeadResult)
+          → PhaseInvariant p phase loads header body mac → (k : Result ℕ AeadError)
           → ((j : ℕ) → k ≡ Ok j → p.key ≤ length body)
           → Invariant v (final_by k (engine_of v (reader_in phase header body) mac s)).engine
           (read_end k p (reader_in phase header body)).reader
@@ -386,12 +385,12 @@ module _ (v : SparkleVariant) where
 -- a start
 start-keeps : (v : SparkleVariant) (r : Reader) (mac : Mac) (s : Steps)
     → (LoadsFit (params_of v) r.loads)
-    → (d : Direction) (key nonce header : List ℕ) (k : AeadInitResult) → (k ≡ StartOk → Fits (params_of v) key nonce)
+    → (d : Direction) (key nonce header : List ℕ) (k : Result (Unit {0}) AeadInitError) → (k ≡ Ok tt → Fits (params_of v) key nonce)
     → Invariant v (init_by k (engine_of v r mac s) d key nonce header).engine (read_start k r d key nonce header).reader
 unfolding started refused
-start-keeps v r mac s f d key nonce header (StartErr x) g =
+start-keeps v r mac s f d key nonce header (Err x) g =
     record { mac = no_mac; steps = refused_steps s; same-engine = refl; loads_fit = f; phase_invariant = refl }
-start-keeps v r mac s f d key nonce header StartOk g =
+start-keeps v r mac s f d key nonce header (Ok _) g =
     let p = params_of v in
     let n = (started (engine_of v r mac s) d key nonce header).steps in
     let e : started (engine_of v r mac s) d key nonce header
@@ -412,7 +411,7 @@ start-keeps v r mac s f d key nonce header StartOk g =
       steps = n;
     }
     in
-    subst (λ (x : SparkleEngine). Invariant v x (read_start StartOk r d key nonce header).reader) (sym e)
+    subst (λ (x : SparkleEngine). Invariant v x (read_start (Ok tt) r d key nonce header).reader) (sym e)
     (restart v (after_load r.loads key nonce) header (load_fits p r.loads key nonce f (g refl)) refl d header n)
 
 -- ---- A call
@@ -557,10 +556,10 @@ module _ (v : SparkleVariant) (r : Reader) (mac : Mac) (s : Steps) (f : LoadsFit
       (x ∷ input)).engine
       (read_header (aad_check r.phase (suc (length input))) r (x ∷ input)).reader
   header_some x input =
-      subst (λ (k : AeadResult). Invariant v (aad_by k (engine_of v r mac s) (x ∷ input)).engine
+      subst (λ (k : Result ℕ AeadError). Invariant v (aad_by k (engine_of v r mac s) (x ∷ input)).engine
       (read_header (aad_check r.phase (suc (length input))) r (x ∷ input)).reader)
       (sym (header-answer v r mac s (suc (length input))))
-      (subst (λ (k : AeadResult). Invariant v (aad_by k (engine_of v r mac s) (x ∷ input)).engine (read_header k r (x ∷ input)).reader)
+      (subst (λ (k : Result ℕ AeadError). Invariant v (aad_by k (engine_of v r mac s) (x ∷ input)).engine (read_header k r (x ∷ input)).reader)
       (sym (aad_some r.phase (length input)))
       (header-keeps v r.loads r.initial f r.phase r.header r.body mac s st x input))
 
@@ -577,13 +576,13 @@ module _ (v : SparkleVariant) (r : Reader) (mac : Mac) (s : Steps) (f : LoadsFit
   call_step (Call.Init d key nonce size h) = start-step d key nonce size h
   call_step (Call.Aad input) = header-step input
   call_step (Call.Data input out) = unfold read in
-      subst (λ (k : AeadResult). Invariant v (data_by k (engine_of v r mac s) input).engine
+      subst (λ (k : Result ℕ AeadError). Invariant v (data_by k (engine_of v r mac s) input).engine
       (read v r (Call.Data input out)).reader)
       (sym (data-answer v r mac s (length input) (length out)))
       (message-step v r.phase r.loads r.initial r.header r.body mac s f st input
       (reader_held (params_of v) r) (length out))
   call_step (Call.Final out) = unfold read in
-      subst (λ (k : AeadResult). Invariant v (final_by k (engine_of v r mac s)).engine
+      subst (λ (k : Result ℕ AeadError). Invariant v (final_by k (engine_of v r mac s)).engine
       (read v r (Call.Final out)).reader)
       (sym (final_answer_lem v r mac s (length out)))
       (end_step v r.phase r.loads r.initial r.header r.body mac s f st (length out))

@@ -5,16 +5,15 @@ use mathlib.Core.List.{List, [], ◌∷◌, ◌++◌}
 use Prim.Native.Nat.{ℕ}
 use native.Mathlib.Omega.{arith}
 use lib.ListN.{length, take}
+use Rattle.std.specs.Prelude.{Result, Ok, Err}
 use Rattle.schwaemm.specs.Schwaemm.{Params}
 use Rattle.tc_aead_cipher.specs.declared.variant.SparkleVariant.{SparkleVariant}
 use Rattle.tc_aead_cipher.specs.declared.phase.Direction.{Direction}
 use Rattle.tc_aead_cipher.specs.declared.phase.Direction.TheVariants.{Encrypt, Decrypt}
 use Rattle.tc_aead_cipher.specs.declared.phase.Phase.{Phase}
 use Rattle.tc_aead_cipher.specs.declared.phase.Phase.TheVariants.{Uninitialized, Init, Aad, Data, Final}
-use Rattle.tc_aead_cipher.specs.declared.aead_error.AeadResult.{AeadResult}
-use Rattle.tc_aead_cipher.specs.declared.aead_error.AeadResult.TheVariants.{Ok, Err}
-use Rattle.tc_aead_cipher.specs.declared.aead_init_error.AeadInitResult.{AeadInitResult}
-use Rattle.tc_aead_cipher.specs.declared.aead_init_error.AeadInitResult.TheVariants.{Ok as StartOk, Err as StartErr}
+use Rattle.tc_aead_cipher.specs.declared.aead_error.AeadError.{AeadError}
+use Rattle.tc_aead_cipher.specs.declared.aead_init_error.AeadInitError.{AeadInitError}
 use Rattle.tc_sparkle_aead.specs.declared.engine.SparkleEngine.{SparkleEngine}
 use Rattle.tc_aead_cipher.specs.Variant.{params_of}
 use Rattle.tc_aead_cipher.specs.Refusals.{refusal}
@@ -42,7 +41,7 @@ under-header (Aad d) (x ∷ input) u = tt
 under-header (Data d) (x ∷ input) u = tt
 under-header (Final d) (x ∷ input) u = u
 
-header-under : (k : AeadResult) (r : Reader) (input : List ℕ) → UnderWay (read_header k r input).reader.phase
+header-under : (k : Result ℕ AeadError) (r : Reader) (input : List ℕ) → UnderWay (read_header k r input).reader.phase
     → UnderWay r.phase
 header-under (Ok n) r input u = under-header r.phase input u
 header-under (Err x) r input u = u
@@ -54,7 +53,7 @@ under-data (Aad d) u = tt
 under-data (Data d) u = tt
 under-data (Final d) u = u
 
-message-under : (k : AeadResult) (r : Reader) (input : List ℕ) → UnderWay (read_message k r input).reader.phase
+message-under : (k : Result ℕ AeadError) (r : Reader) (input : List ℕ) → UnderWay (read_message k r input).reader.phase
     → UnderWay r.phase
 message-under (Ok n) r input u = under-data r.phase u
 message-under (Err x) r input u = u
@@ -72,10 +71,10 @@ ended-over (Final d) p r is u = subst UnderWay is u
 
 -- ---- What a start, an end and a reset leave.
 
-start-nothing : (k : AeadInitResult) (p : Params) (r : Reader) (d : Direction) (key nonce h : List ℕ)
+start-nothing : (k : Result (Unit {0}) AeadInitError) (p : Params) (r : Reader) (d : Direction) (key nonce h : List ℕ)
     → UnderWay (read_start k r d key nonce h).reader.phase → [] ≡ released p (read_start k r d key nonce h).reader
-start-nothing StartOk p r d key nonce h u = sym (released-none p _ h (header_phase d h) h [] refl)
-start-nothing (StartErr x) p r d key nonce h u = absurd u
+start-nothing (Ok _) p r d key nonce h u = sym (released-none p _ h (header_phase d h) h [] refl)
+start-nothing (Err x) p r d key nonce h u = absurd u
 
 reset-nothing : (phase : Phase) (p : Params) (r : Reader) → r.phase ≡ phase → UnderWay (reset_in phase r).phase
     → [] ≡ released p (reset_in phase r)
@@ -107,15 +106,15 @@ module _ (v : SparkleVariant) where
   so_far_step e r w (Call.Final out) before was u =
       by (end_check (params_of v) r.phase (reader_held (params_of v) r) (length out)) refl
     where
-      by : (k : AeadResult) → end_check (params_of v) r.phase (reader_held (params_of v) r) (length out) ≡ k
+      by : (k : Result ℕ AeadError) → end_check (params_of v) r.phase (reader_held (params_of v) r) (length out) ≡ k
           → before ++ wrote (step e (Call.Final out)) ≡ released (params_of v) (read v r (Call.Final out)).reader
       by (Ok n) q =
           absurd (ended-over r.phase (params_of v) r refl
-          (subst (λ (k : AeadResult). UnderWay (read_end k (params_of v) r).reader.phase) q u))
+          (subst (λ (k : Result ℕ AeadError). UnderWay (read_end k (params_of v) r).reader.phase) q u))
       by (Err x) q =
           sym (unwritten before _ (wrote-refused (step e (Call.Final out)) (refusal x) (end_refused v e r w out x q)))
-          ∙ was (subst (λ (k : AeadResult). UnderWay (read_end k (params_of v) r).reader.phase) q u)
-          ∙ sym (ap (λ (k : AeadResult). released (params_of v) (read_end k (params_of v) r).reader) q)
+          ∙ was (subst (λ (k : Result ℕ AeadError). UnderWay (read_end k (params_of v) r).reader.phase) q u)
+          ∙ sym (ap (λ (k : Result ℕ AeadError). released (params_of v) (read_end k (params_of v) r).reader) q)
   so_far_step e r w Call.Reset before was u = reset-nothing r.phase (params_of v) r refl u
   so_far_step e r w Call.Mac before was u =
       ap (λ (l : List ℕ). l ++ wrote (step e Call.Mac)) (was u) ∙ sym (released-step v e r w Call.Mac tt)

@@ -7,14 +7,14 @@ use Prim.Native.Nat.{ℕ}
 use native.Mathlib.Omega.{arith}
 use lib.ListN.{length}
 use lib.Dec.{eqb}
+use Rattle.std.specs.Prelude.{Result, Ok, Err}
 use Rattle.schwaemm.specs.Schwaemm.{Params, verified}
 use Rattle.tc_aead_cipher.specs.declared.variant.SparkleVariant.{SparkleVariant}
 use Rattle.tc_aead_cipher.specs.declared.phase.Direction.{Direction}
 use Rattle.tc_aead_cipher.specs.declared.phase.Direction.TheVariants.{Encrypt, Decrypt}
 use Rattle.tc_aead_cipher.specs.declared.phase.Phase.{Phase}
 use Rattle.tc_aead_cipher.specs.declared.phase.Phase.TheVariants.{Uninitialized, Init, Aad, Data, Final}
-use Rattle.tc_aead_cipher.specs.declared.aead_error.AeadResult.{AeadResult}
-use Rattle.tc_aead_cipher.specs.declared.aead_error.AeadResult.TheVariants.{Ok, Err}
+use Rattle.tc_aead_cipher.specs.declared.aead_error.AeadError.{AeadError}
 use Rattle.tc_sparkle_aead.specs.declared.engine.SparkleEngine.{SparkleEngine}
 use Rattle.tc_aead_cipher.specs.Variant.{params_of}
 use Rattle.tc_aead_cipher.specs.Checks.{opening, held_data, update_len, total_len, aad_check, header_check, data_check, end_check, start_check}
@@ -77,7 +77,7 @@ end-phase p r (Data Encrypt) n available c = refl
 end-phase p r (Data Decrypt) n available c = open_shown (verified p (loaded_key r) (loaded_nonce r) r.header r.body) n
 end-phase p r (Final d) n available c = absurd (let z : ◌≡◌ {A = ℕ} 0 1 = cc in omega arith)
 
-end-shown : (p : Params) (r : Reader) (k : AeadResult) (available : ℕ)
+end-shown : (p : Params) (r : Reader) (k : Result ℕ AeadError) (available : ℕ)
     → end_check p r.phase (reader_held p r) available ≡ k
     → end_outcome k (opening r.phase) (yes (read_end k p r).verdict)
     ≡ end_outcome k (opening r.phase) (verified p (loaded_key r) (loaded_nonce r) r.header r.body)

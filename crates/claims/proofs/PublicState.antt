@@ -8,6 +8,7 @@ use Prim.Native.Nat.{ℕ, zero, suc, ◌+◌, ◌-◌, ◌*◌, ◌%◌, ◌^◌
 use native.Mathlib.Omega.{arith}
 use lib.ListN.{length, length-take, length-drop, length-append, length-replicate}
 use lib.Dec.{eqb, ltb}
+use Rattle.std.specs.Prelude.{Result, Ok, Err}
 use Rattle.schwaemm.specs.Blocks.{ready, held}
 use Rattle.schwaemm.specs.Schwaemm.{Params}
 use Rattle.tc_aead_cipher.specs.declared.variant.SparkleVariant.{SparkleVariant}
@@ -15,12 +16,9 @@ use Rattle.tc_aead_cipher.specs.declared.phase.Direction.{Direction}
 use Rattle.tc_aead_cipher.specs.declared.phase.Direction.TheVariants.{Encrypt, Decrypt}
 use Rattle.tc_aead_cipher.specs.declared.phase.Phase.{Phase}
 use Rattle.tc_aead_cipher.specs.declared.phase.Phase.TheVariants.{Uninitialized, Init, Aad, Data, Final}
-use Rattle.tc_aead_cipher.specs.declared.aead_error.AeadResult.{AeadResult}
-use Rattle.tc_aead_cipher.specs.declared.aead_error.AeadResult.TheVariants.{Ok, Err}
+use Rattle.tc_aead_cipher.specs.declared.aead_error.AeadError.{AeadError}
 use Rattle.tc_aead_cipher.specs.declared.aead_init_error.AeadInitError.{AeadInitError}
 use Rattle.tc_aead_cipher.specs.declared.aead_init_error.AeadInitError.TheVariants.{InvalidKeyLength, InvalidNonceLength, InvalidMacSize, NonceReuse}
-use Rattle.tc_aead_cipher.specs.declared.aead_init_error.AeadInitResult.{AeadInitResult}
-use Rattle.tc_aead_cipher.specs.declared.aead_init_error.AeadInitResult.TheVariants.{Ok as StartOk, Err as StartErr}
 use Rattle.tc_sparkle_aead.specs.declared.message.Point.{Point}
 use Rattle.tc_sparkle_aead.specs.declared.engine.Steps.{Steps}
 use Rattle.tc_sparkle_aead.specs.declared.engine.SparkleEngine.{SparkleEngine}
@@ -74,12 +72,12 @@ public_of e =
 -- ---- The verdict as the engine decides it
 
 -- A start: whether the pair repeats, where it seals and its sizes are right.
-abbrev pub start_note : AeadInitResult → Direction → Bool → Verdict
-start_note (StartErr x) d repeats = refused_verdict x d repeats
-start_note StartOk d repeats = start_verdict d repeats
+abbrev pub start_note : Result (Unit {0}) AeadInitError → Direction → Bool → Verdict
+start_note (Err x) d repeats = refused_verdict x d repeats
+start_note (Ok _) d repeats = start_verdict d repeats
 
 -- An end: whether the tag is right, where it opens and its checks have passed.
-abbrev pub end_note : AeadResult → Bool → Bool → Verdict
+abbrev pub end_note : Result ℕ AeadError → Bool → Bool → Verdict
 end_note (Err x) opens tag_right = None
 end_note (Ok n) opens tag_right = cond opens (verdict_of tag_right) None
 
@@ -171,9 +169,9 @@ absorb_next p d q (suc n) = flowed p 0 (Aad d) q (suc n)
 abbrev pub absorb_steps : Params → Outside → ℕ → ℕ
 absorb_steps p q n = ready p.rate 0 (public_held p q + n) * p.slim
 
-abbrev pub start_next : AeadInitResult → Public → Direction → ℕ → Public
-start_next (StartErr x) u d n = wiped_next u
-start_next StartOk u d n =
+abbrev pub start_next : Result (Unit {0}) AeadInitError → Public → Direction → ℕ → Public
+start_next (Err x) u d n = wiped_next u
+start_next (Ok _) u d n =
     let p = params_of u.variant in
     record {
       variant = u.variant;
@@ -193,12 +191,12 @@ header_in (Aad d) u n =
 header_in (Data d) u n = u
 header_in (Final d) u n = u
 
-abbrev pub header_next : AeadResult → Public → ℕ → Public
+abbrev pub header_next : Result ℕ AeadError → Public → ℕ → Public
 header_next (Err x) u n = u
 header_next (Ok k) u zero = u
 header_next (Ok k) u (suc n) = header_in u.current.phase u (suc n)
 
-abbrev pub header_shows : AeadResult → Outcome
+abbrev pub header_shows : Result ℕ AeadError → Outcome
 header_shows (Err x) = outcome (Err x)
 header_shows (Ok k) = ok 0
 
@@ -216,7 +214,7 @@ data_intake u n =
     let k = keep p u.current.phase in
     moved u (flowed p k u.current.phase u.current n) (ready p.rate k (public_held p u.current + n) * p.slim)
 
-abbrev pub data_next : AeadResult → Public → ℕ → Public
+abbrev pub data_next : Result ℕ AeadError → Public → ℕ → Public
 data_next (Err x) u n = u
 data_next (Ok k) u n = data_intake (begin_next u.current.phase u) n
 
@@ -237,7 +235,7 @@ end_in true u tag_right =
     let p = params_of u.variant in
     final_next u Decrypt tag_right (min (public_held p u.current - p.key) (public_held p u.current))
 
-abbrev pub end_next : AeadResult → Public → Bool → Public
+abbrev pub end_next : Result ℕ AeadError → Public → Bool → Public
 end_next (Err x) u tag_right = u
 end_next (Ok n) u tag_right = end_in (opening u.current.phase) (begin_next u.current.phase u) tag_right
 
@@ -318,17 +316,17 @@ unnoted (InvalidMacSize n) d b other = refl
 unnoted NonceReuse d b other = absurd (other refl)
 
 -- a sealing past the other checks tells by its verdict, and by its outcome, whether its pair repeats
-yes_by_verdict : (b : Bool) → yes (start_note (cond b (StartErr NonceReuse) StartOk) Encrypt b) ≡ b
+yes_by_verdict : (b : Bool) → yes (start_note (cond b (Err NonceReuse) (Ok tt)) Encrypt b) ≡ b
 yes_by_verdict true = refl
 yes_by_verdict false = refl
 
-yes_by_outcome : (b : Bool) → is_reuse (start_outcome (cond b (StartErr NonceReuse) StartOk)) ≡ b
+yes_by_outcome : (b : Bool) → is_reuse (start_outcome (cond b (Err NonceReuse) (Ok tt))) ≡ b
 yes_by_outcome true = refl
 yes_by_outcome false = refl
 
 -- a start's check needs of the pair only what its verdict tells, and its outcome tells the verdict
 module _ (v : SparkleVariant) (key nonce size : ℕ) where
-  abbrev check : Direction → Bool → AeadInitResult
+  abbrev check : Direction → Bool → Result (Unit {0}) AeadInitError
   check d b = start_check v d key nonce size b
 
   verdict-by : {d : Direction} → StartCase v key nonce size d → (b : Bool)
@@ -354,7 +352,7 @@ module _ (v : SparkleVariant) (key nonce size : ℕ) where
   start_judged d b = judged_by (start_check_case v key nonce size d) b
 
 -- an end's answer and the public state after it need of the tag only what the verdict tells
-end-verdict : (k : AeadResult) (u : Public) (tag_right : Bool)
+end-verdict : (k : Result ℕ AeadError) (u : Public) (tag_right : Bool)
     → end_next k u tag_right ≡ end_next k u (yes (end_note k (opening u.current.phase) tag_right))
 end-verdict (Err x) u tag_right = refl
 end-verdict (Ok n) u tag_right = by (opening u.current.phase) tag_right
@@ -365,13 +363,13 @@ end-verdict (Ok n) u tag_right = by (opening u.current.phase) tag_right
     by true false = refl
     by false tag_right = refl
 
-end_verdict_shows : (k : AeadResult) (o tag_right : Bool) → end_outcome k o tag_right ≡ end_outcome k o (yes (end_note k o tag_right))
+end_verdict_shows : (k : Result ℕ AeadError) (o tag_right : Bool) → end_outcome k o tag_right ≡ end_outcome k o (yes (end_note k o tag_right))
 end_verdict_shows (Err x) o tag_right = refl
 end_verdict_shows (Ok n) true true = refl
 end_verdict_shows (Ok n) true false = refl
 end_verdict_shows (Ok n) false tag_right = refl
 
-end_judged : (k : AeadResult) (o tag_right : Bool) → end_note k o tag_right ≡ end_note k o (is_ok (end_outcome k o tag_right))
+end_judged : (k : Result ℕ AeadError) (o tag_right : Bool) → end_note k o tag_right ≡ end_note k o (is_ok (end_outcome k o tag_right))
 end_judged (Err x) o tag_right = refl
 end_judged (Ok n) true true = refl
 end_judged (Ok n) true false = refl
@@ -393,11 +391,11 @@ start_point_public : (p : Params) (d : Direction) (key nonce : List ℕ) → out
 unfolding start_point zeros
 start_point_public p d key nonce = refl
 
-start_public : (k : AeadInitResult) (e : SparkleEngine) (d : Direction) (key nonce header : List ℕ)
+start_public : (k : Result (Unit {0}) AeadInitError) (e : SparkleEngine) (d : Direction) (key nonce header : List ℕ)
     → public_of (init_by k e d key nonce header).engine ≡ start_next k (public_of e) d (length header)
 unfolding started refused no_mac
-start_public (StartErr x) e d key nonce header = refl
-start_public StartOk e d key nonce header =
+start_public (Err x) e d key nonce header = refl
+start_public (Ok _) e d key nonce header =
     let p = params_of e.variant in
     let at : outside (absorb_header p d (start_point p d key nonce) header) ≡ absorb_next p d (start_outside d) (length header) =
     absorb_public p d (start_point p d key nonce) header
@@ -428,13 +426,13 @@ aad_in_public (Aad d) e input =
 aad_in_public (Data d) e input = refl
 aad_in_public (Final d) e input = refl
 
-header_public : (k : AeadResult) (e : SparkleEngine) (input : List ℕ)
+header_public : (k : Result ℕ AeadError) (e : SparkleEngine) (input : List ℕ)
     → public_of (aad_by k e input).engine ≡ header_next k (public_of e) (length input)
 header_public (Err x) e input = refl
 header_public (Ok n) e [] = refl
 header_public (Ok n) e (x ∷ input) = aad_in_public e.current.phase e (x ∷ input)
 
-header_shows_lem : (k : AeadResult) (e : SparkleEngine) (input : List ℕ) → outcome (aad_by k e input).answer ≡ header_shows k
+header_shows_lem : (k : Result ℕ AeadError) (e : SparkleEngine) (input : List ℕ) → outcome (aad_by k e input).answer ≡ header_shows k
 header_shows_lem (Err x) e input = refl
 header_shows_lem (Ok n) e [] = refl
 header_shows_lem (Ok n) e (x ∷ input) = refl
@@ -459,13 +457,13 @@ data_in_public e input =
     moved_public e _ _ _ _ (streamed_flowed p k _ e.current.phase e.current input)
     (ap (λ (n : ℕ). n * p.slim) (block_count_flowed p k e.current input))
 
-data_public : (k : AeadResult) (e : SparkleEngine) (input : List ℕ)
+data_public : (k : Result ℕ AeadError) (e : SparkleEngine) (input : List ℕ)
     → public_of (data_by k e input).engine ≡ data_next k (public_of e) (length input)
 data_public (Err x) e input = refl
 data_public (Ok n) e input =
     data_in_public (begin_data e) input ∙ ap (λ (u : Public). data_intake u (length input)) (begin_data_public e)
 
-data_shows : (k : AeadResult) (e : SparkleEngine) (input : List ℕ) → outcome (data_by k e input).answer ≡ outcome k
+data_shows : (k : Result ℕ AeadError) (e : SparkleEngine) (input : List ℕ) → outcome (data_by k e input).answer ≡ outcome k
 data_shows (Err x) e input = refl
 data_shows (Ok n) e input = refl
 
@@ -488,7 +486,7 @@ unfolding open_final seal_final final_engine last_steps readable
 end_in_public true e n = open_final_public (tag_right e) e n
 end_in_public false e n = rw (length-buffered (params_of e.variant) e.current)
 
-end_public : (k : AeadResult) (e : SparkleEngine)
+end_public : (k : Result ℕ AeadError) (e : SparkleEngine)
     → public_of (final_by k e).engine ≡ end_next k (public_of e) (tag_right (begin_data e))
 end_public (Err x) e = refl
 end_public (Ok n) e =
@@ -505,7 +503,7 @@ unfolding open_final seal_final
 end_in_shows true e n = open_final_shows (tag_right e) e n
 end_in_shows false e n = refl
 
-end_shows : (k : AeadResult) (e : SparkleEngine)
+end_shows : (k : Result ℕ AeadError) (e : SparkleEngine)
     → outcome (final_by k e).answer ≡ end_outcome k (opening e.current.phase) (tag_right (begin_data e))
 end_shows (Err x) e = refl
 end_shows (Ok n) e = end_in_shows (opening e.current.phase) (begin_data e) n
@@ -523,10 +521,10 @@ reset_public : (e : SparkleEngine) → public_of (resetEngine e) ≡ next (publi
 unfolding resetEngine no_mac
 reset_public e = rw (reset_point_public e.current.phase e.initial)
 
-start_shows : (k : AeadInitResult) (e : SparkleEngine) (d : Direction) (key nonce header : List ℕ)
+start_shows : (k : Result (Unit {0}) AeadInitError) (e : SparkleEngine) (d : Direction) (key nonce header : List ℕ)
     → start_outcome (init_by k e d key nonce header).answer ≡ start_outcome k
-start_shows (StartErr x) e d key nonce header = refl
-start_shows StartOk e d key nonce header = refl
+start_shows (Err x) e d key nonce header = refl
+start_shows (Ok _) e d key nonce header = refl
 
 mac_readable : (e : SparkleEngine) → (mac_of e).readable ≡ e.mac.readable
 unfolding mac_of no_mac
@@ -544,7 +542,7 @@ next_is e (Call.Init d key nonce size header) =
     let p = params_of e.variant in
     let b = repeats p e.pair key nonce in
     start_public (start_check e.variant d (length key) (length nonce) size b) e d key nonce header
-    ∙ ap (λ (k : AeadInitResult). start_next k (public_of e) d (length header))
+    ∙ ap (λ (k : Result (Unit {0}) AeadInitError). start_next k (public_of e) d (length header))
     (start-verdict e.variant (length key) (length nonce) size d b)
 next_is e (Call.Aad input) = header_public (aad_check e.current.phase (length input)) e input
 next_is e (Call.Data input out) = data_public (data_answer e (length input) (length out)) e input

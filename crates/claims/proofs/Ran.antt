@@ -9,6 +9,7 @@ use native.Mathlib.Omega.{arith}
 use borrow.Author.Tests.{lt-ltb}
 use lib.Dec.{ltb}
 use lib.ListN.{length, length-append}
+use Rattle.std.specs.Prelude.{Result, Ok, Err}
 use Rattle.schwaemm.specs.Blocks.{ready, held}
 use Rattle.schwaemm.specs.Schwaemm.{Params, Sizes, leading, steps_of, steps}
 use Rattle.schwaemm.proofs.Cut.{ready_add, ready-before, ready-none, rest_above, rest_below, length-held}
@@ -18,10 +19,8 @@ use Rattle.tc_aead_cipher.specs.declared.phase.Direction.{Direction}
 use Rattle.tc_aead_cipher.specs.declared.phase.Direction.TheVariants.{Encrypt, Decrypt}
 use Rattle.tc_aead_cipher.specs.declared.phase.Phase.{Phase}
 use Rattle.tc_aead_cipher.specs.declared.phase.Phase.TheVariants.{Uninitialized, Init, Aad, Data, Final}
-use Rattle.tc_aead_cipher.specs.declared.aead_error.AeadResult.{AeadResult}
-use Rattle.tc_aead_cipher.specs.declared.aead_error.AeadResult.TheVariants.{Ok, Err}
-use Rattle.tc_aead_cipher.specs.declared.aead_init_error.AeadInitResult.{AeadInitResult}
-use Rattle.tc_aead_cipher.specs.declared.aead_init_error.AeadInitResult.TheVariants.{Ok as StartOk, Err as StartErr}
+use Rattle.tc_aead_cipher.specs.declared.aead_error.AeadError.{AeadError}
+use Rattle.tc_aead_cipher.specs.declared.aead_init_error.AeadInitError.{AeadInitError}
 use Rattle.tc_sparkle_aead.specs.declared.message.Mac.{Mac}
 use Rattle.tc_sparkle_aead.specs.declared.engine.Steps.{Steps}
 use Rattle.tc_sparkle_aead.specs.declared.engine.SparkleEngine.{SparkleEngine}
@@ -49,15 +48,15 @@ use Rattle.claims.proofs.CallOutputs.{seal_engine_step, open_engine_step}
 -- ---- What a call runs
 
 -- A start: big, and its header's blocks but the last. A refused call runs nothing.
-abbrev pub start_ran : AeadInitResult → Params → (header : List ℕ) → ℕ
-start_ran (StartErr x) p header = 0
-start_ran StartOk p header = start_steps p header
+abbrev pub start_ran : Result (Unit {0}) AeadInitError → Params → (header : List ℕ) → ℕ
+start_ran (Err x) p header = 0
+start_ran (Ok _) p header = start_steps p header
 
 -- What is held of a header of n bytes, and what n bytes more of it run.
 abbrev pub header_held : Params → ℕ → ℕ
 header_held p n = n - leading p n * p.rate
 
-abbrev pub header_ran : AeadResult → Params → Reader → ℕ → ℕ
+abbrev pub header_ran : Result ℕ AeadError → Params → Reader → ℕ → ℕ
 header_ran (Err x) p r n = 0
 header_ran (Ok k) p r n = leading p (header_held p (length r.header) + n) * p.slim
 
@@ -70,7 +69,7 @@ begin_ran p (Data d) = 0
 begin_ran p (Final d) = 0
 
 -- Data: the header's last block, and the blocks that go of what is held and n bytes more.
-abbrev pub message_ran : AeadResult → Params → Reader → ℕ → ℕ
+abbrev pub message_ran : Result ℕ AeadError → Params → Reader → ℕ → ℕ
 message_ran (Err x) p r n = 0
 message_ran (Ok k) p r n = begin_ran p r.phase + ready p.rate (keep p r.phase) (reader_held p r + n) * p.slim
 
@@ -78,7 +77,7 @@ message_ran (Ok k) p r n = begin_ran p r.phase + ready p.rate (keep p r.phase) (
 abbrev pub last_ran : Params → ℕ → ℕ
 last_ran p n = cond (ltb 0 n) p.big 0
 
-abbrev pub end_ran : AeadResult → Params → Reader → ℕ
+abbrev pub end_ran : Result ℕ AeadError → Params → Reader → ℕ
 end_ran (Err x) p r = 0
 end_ran (Ok k) p r =
     begin_ran p r.phase + last_ran p (message_length (direction_of r.phase) p (reader_held p r))
@@ -222,7 +221,7 @@ module _ (v : SparkleVariant) (r : Reader) (mac : Mac)
   grows (Call.Data input out) k =
       by (data_check (params_of v) r.phase (reader_held (params_of v) r) (length input) (length out)) refl
     where
-      by : (k : AeadResult) → data_check (params_of v) r.phase (reader_held (params_of v) r) (length input) (length out) ≡ k
+      by : (k : Result ℕ AeadError) → data_check (params_of v) r.phase (reader_held (params_of v) r) (length input) (length out) ≡ k
           → ran_so_far (params_of v) (read_message k r input).reader
           ≡ ran_so_far (params_of v) r + message_ran k (params_of v) r (length input)
       by (Err x) q = sym (add-zero _)
@@ -232,7 +231,7 @@ module _ (v : SparkleVariant) (r : Reader) (mac : Mac)
   grows (Call.Final out) k =
       by (end_check (params_of v) r.phase (reader_held (params_of v) r) (length out)) refl
     where
-      by : (k : AeadResult) → end_check (params_of v) r.phase (reader_held (params_of v) r) (length out) ≡ k
+      by : (k : Result ℕ AeadError) → end_check (params_of v) r.phase (reader_held (params_of v) r) (length out) ≡ k
           → ran_so_far (params_of v) (read_end k (params_of v) r).reader ≡ ran_so_far (params_of v) r + end_ran k (params_of v) r
       by (Err x) q = sym (add-zero _)
       by (Ok n) q =
@@ -355,7 +354,7 @@ module _ (v : SparkleVariant) (loads : List Load) (initial header body : List �
 -- the engine that the reader gives
 module _ (v : SparkleVariant) (r : Reader) (mac : Mac) (s : Steps) (f : LoadsFit (params_of v) r.loads)
     (st : PhaseInvariant (params_of v) r.phase r.loads r.header r.body mac) (below : s.current < 2 ^ 64) where
-  data_adds : (input out : List ℕ) (k : AeadResult)
+  data_adds : (input out : List ℕ) (k : Result ℕ AeadError)
       → data_check (params_of v) r.phase (reader_held (params_of v) r) (length input) (length out) ≡ k
       → (data_by k (engine_of v r mac s) input).engine.steps ≡ add_steps (message_ran k (params_of v) r (length input)) s
   data_adds input out (Err x) q = sym (add_none s below)
@@ -365,7 +364,7 @@ module _ (v : SparkleVariant) (r : Reader) (mac : Mac) (s : Steps) (f : LoadsFit
       ∙ ap (λ (j : ℕ). add_steps j s)
       (sym (message_ran_lem v r.loads r.initial r.header r.body mac s below t.1 (length input) n))
 
-  end_adds : (out : List ℕ) (k : AeadResult)
+  end_adds : (out : List ℕ) (k : Result ℕ AeadError)
       → end_check (params_of v) r.phase (reader_held (params_of v) r) (length out) ≡ k
       → (final_by k (engine_of v r mac s)).engine.steps ≡ add_steps (end_ran k (params_of v) r) s
   end_adds out (Err x) q = sym (add_none s below)
@@ -375,7 +374,7 @@ module _ (v : SparkleVariant) (r : Reader) (mac : Mac) (s : Steps) (f : LoadsFit
       is : (final_by (Ok n) (engine_of v r mac s)).engine ≡ (step (engine_of v r mac s) (Call.Final out)).engine
       is =
           unfold step in unfold do_final in
-          ap (λ (k : AeadResult). (final_by k (engine_of v r mac s)).engine) (sym (final_answer_lem v r mac s (length out) ∙ q))
+          ap (λ (k : Result ℕ AeadError). (final_by k (engine_of v r mac s)).engine) (sym (final_answer_lem v r mac s (length out) ∙ q))
 
       by : (d : Direction) → Active d r.phase
           → (final_by (Ok n) (engine_of v r mac s)).engine.steps ≡ add_steps (end_ran (Ok n) (params_of v) r) s
@@ -400,17 +399,17 @@ module _ (v : SparkleVariant) (r : Reader) (mac : Mac) (s : Steps) (f : LoadsFit
   call_adds (Call.Aad []) k = unfold aad_check in
       sym (ap (λ (n : ℕ). add_steps n s) (no_blocks (params_of v) (sizes v) (length r.header)) ∙ add_none s below)
   call_adds (Call.Aad (x ∷ input)) k =
-      ap (λ (a : AeadResult). (aad_by a (engine_of v r mac s) (x ∷ input)).engine.steps)
+      ap (λ (a : Result ℕ AeadError). (aad_by a (engine_of v r mac s) (x ∷ input)).engine.steps)
       (header-answer v r mac s (suc (length input)) ∙ aad_some r.phase (length input))
       ∙ header-runs v r.loads r.initial r.header r.body mac s below r.phase st x input
-      ∙ ap (λ (a : AeadResult). add_steps (header_ran a (params_of v) r (suc (length input))) s)
+      ∙ ap (λ (a : Result ℕ AeadError). add_steps (header_ran a (params_of v) r (suc (length input))) s)
       (sym (aad_some r.phase (length input)))
   call_adds (Call.Data input out) k =
-      ap (λ (a : AeadResult). (data_by a (engine_of v r mac s) input).engine.steps)
+      ap (λ (a : Result ℕ AeadError). (data_by a (engine_of v r mac s) input).engine.steps)
       (data-answer v r mac s (length input) (length out))
       ∙ data_adds input out (data_check (params_of v) r.phase (reader_held (params_of v) r) (length input) (length out)) refl
   call_adds (Call.Final out) k =
-      ap (λ (a : AeadResult). (final_by a (engine_of v r mac s)).engine.steps) (final_answer_lem v r mac s (length out))
+      ap (λ (a : Result ℕ AeadError). (final_by a (engine_of v r mac s)).engine.steps) (final_answer_lem v r mac s (length out))
       ∙ end_adds out (end_check (params_of v) r.phase (reader_held (params_of v) r) (length out)) refl
   call_adds Call.Reset k = absurd k
   call_adds Call.Mac k = sym (add_none s below)

@@ -7,6 +7,7 @@ use Prim.Native.Nat.{ℕ, suc, ◌+◌, ◌-◌, ◌*◌, ◌^◌}
 use native.Mathlib.Omega.{arith}
 use lib.ListN.{length, take, replicate}
 use lib.Dec.{eqb, ltb}
+use Rattle.std.specs.Prelude.{Result, Ok, Err}
 use Rattle.schwaemm.specs.Bytes.{same}
 use Rattle.schwaemm.specs.Blocks.{ready}
 use Rattle.schwaemm.specs.Schwaemm.{Params, verified, seal, leading}
@@ -16,11 +17,9 @@ use Rattle.tc_aead_cipher.specs.declared.phase.Direction.{Direction}
 use Rattle.tc_aead_cipher.specs.declared.phase.Direction.TheVariants.{Encrypt}
 use Rattle.tc_aead_cipher.specs.declared.phase.Phase.{Phase}
 use Rattle.tc_aead_cipher.specs.declared.phase.Phase.TheVariants.{Uninitialized, Init, Aad, Data, Final}
-use Rattle.tc_aead_cipher.specs.declared.aead_error.AeadResult.{AeadResult}
-use Rattle.tc_aead_cipher.specs.declared.aead_error.AeadResult.TheVariants.{Ok, Err}
+use Rattle.tc_aead_cipher.specs.declared.aead_error.AeadError.{AeadError}
+use Rattle.tc_aead_cipher.specs.declared.aead_init_error.AeadInitError.{AeadInitError}
 use Rattle.tc_aead_cipher.specs.declared.aead_init_error.AeadInitError.TheVariants.{InvalidKeyLength, InvalidNonceLength, InvalidMacSize, NonceReuse}
-use Rattle.tc_aead_cipher.specs.declared.aead_init_error.AeadInitResult.{AeadInitResult}
-use Rattle.tc_aead_cipher.specs.declared.aead_init_error.AeadInitResult.TheVariants.{Ok as StartOk, Err as StartErr}
 use Rattle.tc_sparkle_aead.specs.declared.engine.SparkleEngine.{SparkleEngine}
 use Rattle.tc_aead_cipher.specs.Variant.{params_of}
 use Rattle.tc_aead_cipher.specs.Checks.{opening, keep, held_data, within64, then, room, whole, update_len, total_len, aad_check, data_check, end_check, start_check}
@@ -245,17 +244,17 @@ finalizing_fails_2 demand =
     let z : ◌≡◌ {A = ℕ} 0 1 = cc in omega arith
 
 -- Document 01's tables give 10 in Final and nowhere else.
-record NotTen (k : AeadResult) : Type 0 where
+record NotTen (k : Result ℕ AeadError) : Type 0 where
   never : (values : List ℕ) → outcome k ≡ no (10 ∷ values) → ⊥
 
 ok-not : (n : ℕ) → NotTen (Ok n)
 ok-not n = record { never = λ values q. let z : ◌≡◌ {A = ℕ} 0 1 = cc in omega arith }
 
-cond-not : (b : Bool) {x y : AeadResult} → NotTen x → NotTen y → NotTen (cond b x y)
+cond-not : (b : Bool) {x y : Result ℕ AeadError} → NotTen x → NotTen y → NotTen (cond b x y)
 cond-not true x y = x
 cond-not false x y = y
 
-then-not : (x : AeadResult) (f : ℕ → AeadResult) → NotTen x → ((n : ℕ) → NotTen (f n)) → NotTen (then x f)
+then-not : (x : Result ℕ AeadError) (f : ℕ → Result ℕ AeadError) → NotTen x → ((n : ℕ) → NotTen (f n)) → NotTen (then x f)
 then-not (Ok n) f x y = y n
 then-not (Err e) f x y = x
 
@@ -283,14 +282,14 @@ whole-not p phase held n =
     cond-not (opening phase)
     (cond-not (ltb (held_data p phase held) p.key) (record { never = λ values q. let z : ◌≡◌ {A = ℕ} 5 10 = cc in omega arith }) (ok-not n)) (ok-not n)
 
-start-not : (k : AeadInitResult) (values : List ℕ) → start_outcome k ≡ no (10 ∷ values) → ⊥
-start-not StartOk values q = let z : ◌≡◌ {A = ℕ} 0 1 = cc in omega arith
-start-not (StartErr (InvalidKeyLength n)) values q = let z : ◌≡◌ {A = ℕ} 1 10 = cc in omega arith
-start-not (StartErr (InvalidNonceLength n)) values q = let z : ◌≡◌ {A = ℕ} 2 10 = cc in omega arith
-start-not (StartErr (InvalidMacSize n)) values q = let z : ◌≡◌ {A = ℕ} 3 10 = cc in omega arith
-start-not (StartErr NonceReuse) values q = let z : ◌≡◌ {A = ℕ} 11 10 = cc in omega arith
+start-not : (k : Result (Unit {0}) AeadInitError) (values : List ℕ) → start_outcome k ≡ no (10 ∷ values) → ⊥
+start-not (Ok _) values q = let z : ◌≡◌ {A = ℕ} 0 1 = cc in omega arith
+start-not (Err (InvalidKeyLength n)) values q = let z : ◌≡◌ {A = ℕ} 1 10 = cc in omega arith
+start-not (Err (InvalidNonceLength n)) values q = let z : ◌≡◌ {A = ℕ} 2 10 = cc in omega arith
+start-not (Err (InvalidMacSize n)) values q = let z : ◌≡◌ {A = ℕ} 3 10 = cc in omega arith
+start-not (Err NonceReuse) values q = let z : ◌≡◌ {A = ℕ} 11 10 = cc in omega arith
 
-end-not : (k : AeadResult) (opens tag_right : Bool) (values : List ℕ) → NotTen k → end_outcome k opens tag_right ≡ no (10 ∷ values) → ⊥
+end-not : (k : Result ℕ AeadError) (opens tag_right : Bool) (values : List ℕ) → NotTen k → end_outcome k opens tag_right ≡ no (10 ∷ values) → ⊥
 end-not (Err x) opens tag_right values k q = k.never values q
 end-not (Ok n) true true values k q = let z : ◌≡◌ {A = ℕ} 0 1 = cc in omega arith
 end-not (Ok n) true false values k q = let z : ◌≡◌ {A = ℕ} 6 10 = cc in omega arith

@@ -4,15 +4,14 @@ use mathlib.Core.Bool.{Bool, true, false, cond}
 use mathlib.Core.List.{List, [], ◌∷◌, map}
 use Prim.Native.Nat.{ℕ}
 use lib.ListN.{length}
+use Rattle.std.specs.Prelude.{Result, Ok, Err}
 use Rattle.schwaemm.specs.Schwaemm.{verified}
 use Rattle.tc_aead_cipher.specs.declared.variant.SparkleVariant.{SparkleVariant}
 use Rattle.tc_aead_cipher.specs.declared.phase.Direction.{Direction}
 use Rattle.tc_aead_cipher.specs.declared.phase.Phase.{Phase}
 use Rattle.tc_aead_cipher.specs.declared.phase.Phase.TheVariants.{Uninitialized, Init, Aad, Data, Final}
-use Rattle.tc_aead_cipher.specs.declared.aead_error.AeadResult.{AeadResult}
-use Rattle.tc_aead_cipher.specs.declared.aead_error.AeadResult.TheVariants.{Ok, Err}
-use Rattle.tc_aead_cipher.specs.declared.aead_init_error.AeadInitResult.{AeadInitResult}
-use Rattle.tc_aead_cipher.specs.declared.aead_init_error.AeadInitResult.TheVariants.{Ok as StartOk, Err as StartErr}
+use Rattle.tc_aead_cipher.specs.declared.aead_error.AeadError.{AeadError}
+use Rattle.tc_aead_cipher.specs.declared.aead_init_error.AeadInitError.{AeadInitError}
 use Rattle.tc_sparkle_aead.specs.declared.message.Mac.{Mac}
 use Rattle.tc_sparkle_aead.specs.declared.engine.SparkleEngine.{SparkleEngine}
 use Rattle.tc_aead_cipher.specs.Variant.{params_of}
@@ -42,7 +41,7 @@ aad_keeps (Aad d) e input = refl
 aad_keeps (Data d) e input = refl
 aad_keeps (Final d) e input = refl
 
-header-keeps : (k : AeadResult) (e : SparkleEngine) (input : List ℕ) → (aad_by k e input).engine.mac ≡ e.mac
+header-keeps : (k : Result ℕ AeadError) (e : SparkleEngine) (input : List ℕ) → (aad_by k e input).engine.mac ≡ e.mac
 header-keeps (Err x) e input = refl
 header-keeps (Ok n) e [] = refl
 header-keeps (Ok n) e (x ∷ input) = aad_keeps e.current.phase e (x ∷ input)
@@ -55,7 +54,7 @@ begin_keeps (Aad d) e = refl
 begin_keeps (Data d) e = refl
 begin_keeps (Final d) e = refl
 
-message-keeps : (k : AeadResult) (e : SparkleEngine) (input : List ℕ) → (data_by k e input).engine.mac ≡ e.mac
+message-keeps : (k : Result ℕ AeadError) (e : SparkleEngine) (input : List ℕ) → (data_by k e input).engine.mac ≡ e.mac
 unfolding data_in at_point begin_data
 message-keeps (Err x) e input = refl
 message-keeps (Ok n) e input = begin_keeps e.current.phase e
@@ -66,11 +65,11 @@ same_tag e e' q = ap (λ (m : Mac). (cond m.readable m no_mac).readable) q
 
 -- ---- A start and a reset drop it.
 
-start_drops_by : (k : AeadInitResult) (e : SparkleEngine) (d : Direction) (key nonce header : List ℕ)
+start_drops_by : (k : Result (Unit {0}) AeadInitError) (e : SparkleEngine) (d : Direction) (key nonce header : List ℕ)
     → mac_of (init_by k e d key nonce header).engine ≡ no_mac
 unfolding mac_of started refused no_mac
-start_drops_by StartOk e d key nonce header = refl
-start_drops_by (StartErr x) e d key nonce header = refl
+start_drops_by (Ok _) e d key nonce header = refl
+start_drops_by (Err x) e d key nonce header = refl
 
 pub start_drops : (e : SparkleEngine) (d : Direction) (key nonce : List ℕ) (size : ℕ) (header : List ℕ)
     → mac_of (step e (Call.Init d key nonce size header)).engine ≡ no_mac
@@ -104,22 +103,22 @@ module _ (v : SparkleVariant) (e : SparkleEngine) (r : Reader) (w : Invariant v 
   unfolding shown_after
   end_step out = by (end_check (params_of v) r.phase (reader_held (params_of v) r) (length out)) refl
     where
-      by : (k : AeadResult) → end_check (params_of v) r.phase (reader_held (params_of v) r) (length out) ≡ k
+      by : (k : Result ℕ AeadError) → end_check (params_of v) r.phase (reader_held (params_of v) r) (length out) ≡ k
           → (mac_of (step e (Call.Final out)).engine).readable
           ≡ shown_after v r (mac_of e).readable (Call.Final out)
       by (Err x) q =
           unfold step in unfold do_final in
           let E = engine_of v r w.mac w.steps in
           ap (λ (y : SparkleEngine). (mac_of (final_by (final_answer y (length out)) y).engine).readable) w.same-engine
-          ∙ ap (λ (k : AeadResult). (mac_of (final_by k E).engine).readable) (final_answer_lem v r w.mac w.steps (length out) ∙ q)
+          ∙ ap (λ (k : Result ℕ AeadError). (mac_of (final_by k E).engine).readable) (final_answer_lem v r w.mac w.steps (length out) ∙ q)
           ∙ ap (λ (y : SparkleEngine). (mac_of y).readable) (sym w.same-engine)
-          ∙ sym (ap (λ (k : AeadResult). shown_by_end k (opening r.phase)
+          ∙ sym (ap (λ (k : Result ℕ AeadError). shown_by_end k (opening r.phase)
           (verified (params_of v) (loaded_key r) (loaded_nonce r) r.header r.body) (mac_of e).readable) q)
       by (Ok n) q =
           let good = cond (opening r.phase) (verified (params_of v) (loaded_key r) (loaded_nonce r) r.header r.body) true in
           ap (λ (m : Mac). m.readable) (end_mac_lem v e r w out n q) ∙ shown-is good _
           ∙ end_shows (opening r.phase) (verified (params_of v) (loaded_key r) (loaded_nonce r) r.header r.body) (mac_of e).readable n
-          ∙ sym (ap (λ (k : AeadResult). shown_by_end k (opening r.phase)
+          ∙ sym (ap (λ (k : Result ℕ AeadError). shown_by_end k (opening r.phase)
           (verified (params_of v) (loaded_key r) (loaded_nonce r) r.header r.body) (mac_of e).readable) q)
 
   -- ---- Every call.

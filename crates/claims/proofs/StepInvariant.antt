@@ -7,6 +7,7 @@ use Prim.Native.Nat.{ℕ, ◌+◌, ◌%◌, ◌^◌, ◌<◌}
 use native.Mathlib.Nat.{mod-add-mod}
 use native.Mathlib.Omega.{arith}
 use lib.ListN.{length}
+use Rattle.std.specs.Prelude.{Result, Ok, Err}
 use Rattle.schwaemm.specs.Schwaemm.{Params, leading, steps, body as body_of, verified}
 use Rattle.schwaemm.proofs.RoundTrip.{length-decrypt}
 use Rattle.tc_aead_cipher.specs.declared.variant.SparkleVariant.{SparkleVariant}
@@ -14,10 +15,8 @@ use Rattle.tc_aead_cipher.specs.declared.phase.Direction.{Direction}
 use Rattle.tc_aead_cipher.specs.declared.phase.Direction.TheVariants.{Encrypt, Decrypt}
 use Rattle.tc_aead_cipher.specs.declared.phase.Phase.{Phase}
 use Rattle.tc_aead_cipher.specs.declared.phase.Phase.TheVariants.{Uninitialized, Init, Aad, Data, Final}
-use Rattle.tc_aead_cipher.specs.declared.aead_error.AeadResult.{AeadResult}
-use Rattle.tc_aead_cipher.specs.declared.aead_error.AeadResult.TheVariants.{Ok, Err}
-use Rattle.tc_aead_cipher.specs.declared.aead_init_error.AeadInitResult.{AeadInitResult}
-use Rattle.tc_aead_cipher.specs.declared.aead_init_error.AeadInitResult.TheVariants.{Ok as StartOk, Err as StartErr}
+use Rattle.tc_aead_cipher.specs.declared.aead_error.AeadError.{AeadError}
+use Rattle.tc_aead_cipher.specs.declared.aead_init_error.AeadInitError.{AeadInitError}
 use Rattle.tc_sparkle_aead.specs.declared.message.Mac.{Mac}
 use Rattle.tc_sparkle_aead.specs.declared.engine.Steps.{Steps}
 use Rattle.tc_sparkle_aead.specs.declared.engine.SparkleEngine.{SparkleEngine}
@@ -46,9 +45,9 @@ use Rattle.claims.proofs.Ran.{start_ran, ran, so_far, ran_so_far, grows, ran_add
 -- ---- The steps after a call
 
 -- An init that is refused, and one that runs n steps.
-abbrev pub started_steps : AeadInitResult → ℕ → Steps → Steps
-started_steps (StartErr x) n s = refused_steps s
-started_steps StartOk n s = init_steps s (n % 2 ^ 64)
+abbrev pub started_steps : Result (Unit {0}) AeadInitError → ℕ → Steps → Steps
+started_steps (Err x) n s = refused_steps s
+started_steps (Ok _) n s = init_steps s (n % 2 ^ 64)
 
 -- The steps after a call, from the reader and the steps before it.
 unfoldable pub steps_after : SparkleVariant → Reader → Call → Steps → Steps
@@ -64,11 +63,11 @@ steps_after v r (Call.Update n) s = add_steps (ran v r (Call.Update n)) s
 steps_after v r (Call.Output n) s = add_steps (ran v r (Call.Output n)) s
 
 start-runs : (v : SparkleVariant) (r : Reader) (mac : Mac) (s : Steps) (d : Direction) (key nonce header : List ℕ)
-    (k : AeadInitResult)
+    (k : Result (Unit {0}) AeadInitError)
     → (init_by k (engine_of v r mac s) d key nonce header).engine.steps ≡ started_steps k (start_ran k (params_of v) header) s
 unfolding started refused header_steps block_count stream buffered start_point leading
-start-runs v r mac s d key nonce header (StartErr x) = refl
-start-runs v r mac s d key nonce header StartOk = refl
+start-runs v r mac s d key nonce header (Err x) = refl
+start-runs v r mac s d key nonce header (Ok _) = refl
 
 start-steps : (v : SparkleVariant) (r : Reader) (mac : Mac) (s : Steps) → LoadsFit (params_of v) r.loads
     → (d : Direction) (key nonce : List ℕ) (size : ℕ) (h : List ℕ)
@@ -113,13 +112,13 @@ unfolding new_engine no_steps steps_after_init steps_before
 counted-new v = record { below = omega arith; initial = refl; current = λ b. refl }
 
 -- init
-start-counted : (v : SparkleVariant) (r : Reader) (s : Steps) (d : Direction) (key nonce header : List ℕ) (k : AeadInitResult)
+start-counted : (v : SparkleVariant) (r : Reader) (s : Steps) (d : Direction) (key nonce header : List ℕ) (k : Result (Unit {0}) AeadInitError)
     → Counted v (started_steps k (start_ran k (params_of v) header) s) (read_start k r d key nonce header).reader
 unfolding init_steps refused_steps no_steps steps_after_init steps_before
-start-counted v r s d key nonce header (StartErr x) = record { below = omega arith; initial = refl; current = λ b. refl }
-start-counted v r s d key nonce [] StartOk =
+start-counted v r s d key nonce header (Err x) = record { below = omega arith; initial = refl; current = λ b. refl }
+start-counted v r s d key nonce [] (Ok _) =
     record { below = is_below _ (start_steps (params_of v) []) refl; initial = refl; current = λ b. refl }
-start-counted v r s d key nonce (x ∷ header) StartOk =
+start-counted v r s d key nonce (x ∷ header) (Ok _) =
     record { below = is_below _ (start_steps (params_of v) (x ∷ header)) refl; initial = refl; current = λ b. refl }
 
 -- reset
@@ -157,7 +156,7 @@ module _ (p : Params) (loads : List Load) (initial header body : List ℕ) where
   abbrev reader_in : Phase → Reader
   reader_in phase = reader_of loads initial phase header body
 
-  header_stays : (phase : Phase) (k : AeadResult) (input : List ℕ)
+  header_stays : (phase : Phase) (k : Result ℕ AeadError) (input : List ℕ)
       → Stays p (reader_in phase) (read_header k (reader_in phase) input).reader
   unfolding steps_after_init
   header_stays phase (Err x) input = stays p (reader_in phase)
@@ -168,7 +167,7 @@ module _ (p : Params) (loads : List Load) (initial header body : List ℕ) where
   header_stays (Data d) (Ok n) (x ∷ input) = record { initial-same = refl; was-before = λ b. b }
   header_stays (Final d) (Ok n) (x ∷ input) = record { initial-same = refl; was-before = λ b. b }
 
-  message_stays : (phase : Phase) (k : AeadResult) (input : List ℕ)
+  message_stays : (phase : Phase) (k : Result ℕ AeadError) (input : List ℕ)
       → Stays p (reader_in phase) (read_message k (reader_in phase) input).reader
   unfolding steps_after_init
   message_stays phase (Err x) input = stays p (reader_in phase)
@@ -178,7 +177,7 @@ module _ (p : Params) (loads : List Load) (initial header body : List ℕ) where
   message_stays (Data d) (Ok n) input = record { initial-same = refl; was-before = λ b. b }
   message_stays (Final d) (Ok n) input = record { initial-same = refl; was-before = λ b. b }
 
-  end_stays : (phase : Phase) (k : AeadResult) → Stays p (reader_in phase) (read_end k p (reader_in phase)).reader
+  end_stays : (phase : Phase) (k : Result ℕ AeadError) → Stays p (reader_in phase) (read_end k p (reader_in phase)).reader
   unfolding steps_after_init
   end_stays phase (Err x) = stays p (reader_in phase)
   end_stays Uninitialized (Ok n) = stays p (reader_in Uninitialized)
@@ -301,7 +300,7 @@ module _ (v : SparkleVariant) (e : SparkleEngine) (r : Reader) (w : Invariant v 
       ap (λ (s : Steps). s.current) (steps-step v e r w n.below (Call.Final out))
       ∙ added v r w.mac w.phase_invariant e.steps n (Call.Final out) tt (active_before t)
       ∙ ap (λ (x : ℕ). x % 2 ^ 64)
-      (ap (λ (a : AeadResult). ran_so_far (params_of v) (read_end a (params_of v) r).reader) passed
+      (ap (λ (a : Result ℕ AeadError). ran_so_far (params_of v) (read_end a (params_of v) r).reader) passed
       ∙ ended_so_far (params_of v) d t r.loads r.initial r.header r.body k)
 
   -- a sealing's data is its message, an opening's decrypts to it

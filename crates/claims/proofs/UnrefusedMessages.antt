@@ -7,6 +7,7 @@ use Prim.Native.Nat.{ℕ}
 use native.Mathlib.Omega.{arith}
 use lib.ListN.{length, take}
 use lib.Seq.{take-nil}
+use Rattle.std.specs.Prelude.{Result, Ok, Err}
 use Rattle.schwaemm.specs.Blocks.{given}
 use Rattle.schwaemm.specs.Schwaemm.{Params, crypt, prepared, message_block, decrypt, seal, body as body_of, verified}
 use Rattle.schwaemm.proofs.RoundTrip.{body-seal, decrypt-encrypt}
@@ -15,10 +16,8 @@ use Rattle.tc_aead_cipher.specs.declared.phase.Direction.{Direction}
 use Rattle.tc_aead_cipher.specs.declared.phase.Direction.TheVariants.{Encrypt, Decrypt}
 use Rattle.tc_aead_cipher.specs.declared.phase.Phase.{Phase}
 use Rattle.tc_aead_cipher.specs.declared.phase.Phase.TheVariants.{Uninitialized, Init, Aad, Data, Final}
-use Rattle.tc_aead_cipher.specs.declared.aead_error.AeadResult.{AeadResult}
-use Rattle.tc_aead_cipher.specs.declared.aead_error.AeadResult.TheVariants.{Ok, Err}
-use Rattle.tc_aead_cipher.specs.declared.aead_init_error.AeadInitResult.{AeadInitResult}
-use Rattle.tc_aead_cipher.specs.declared.aead_init_error.AeadInitResult.TheVariants.{Ok as StartOk, Err as StartErr}
+use Rattle.tc_aead_cipher.specs.declared.aead_error.AeadError.{AeadError}
+use Rattle.tc_aead_cipher.specs.declared.aead_init_error.AeadInitError.{AeadInitError}
 use Rattle.tc_sparkle_aead.specs.declared.message.Mac.{Mac}
 use Rattle.tc_sparkle_aead.specs.declared.engine.SparkleEngine.{SparkleEngine}
 use Rattle.tc_aead_cipher.specs.Variant.{params_of}
@@ -67,9 +66,9 @@ unfolding read
 end_unread v e r w out f =
     by (end_check (params_of v) r.phase (reader_held (params_of v) r) (length out)) refl (opening r.phase) refl
   where
-    by : (k : AeadResult) → end_check (params_of v) r.phase (reader_held (params_of v) r) (length out) ≡ k
+    by : (k : Result ℕ AeadError) → end_check (params_of v) r.phase (reader_held (params_of v) r) (length out) ≡ k
         → (o : Bool) → opening r.phase ≡ o → (read v r (Call.Final out)).reader ≡ r
-    by (Err x) q o is = ap (λ (k : AeadResult). (read_end k (params_of v) r).reader) q
+    by (Err x) q o is = ap (λ (k : Result ℕ AeadError). (read_end k (params_of v) r).reader) q
     by (Ok n) q true is =
         absurd (not_passed (verified (params_of v) (loaded_key r) (loaded_nonce r) r.header r.body) n _
         (open_end_lem v e r w out n q is).outcome-is f)
@@ -93,13 +92,13 @@ active_message Active.in_aad = Active.in-data
 active_message Active.in-data = Active.in-data
 
 module _ (d : Direction) (key nonce : List ℕ) where
-  header_stays_active : (r : Reader) (input : List ℕ) (k : AeadResult) → ActiveUnder d key nonce r
+  header_stays_active : (r : Reader) (input : List ℕ) (k : Result ℕ AeadError) → ActiveUnder d key nonce r
       → ActiveUnder d key nonce (read_header k r input).reader
   header_stays_active r input (Ok n) g =
       record { active = active_header g.active input; key-is = g.key-is; nonce-is = g.nonce-is }
   header_stays_active r input (Err x) g = g
 
-  message_stays_active : (r : Reader) (input : List ℕ) (k : AeadResult) → ActiveUnder d key nonce r
+  message_stays_active : (r : Reader) (input : List ℕ) (k : Result ℕ AeadError) → ActiveUnder d key nonce r
       → ActiveUnder d key nonce (read_message k r input).reader
   message_stays_active r input (Ok n) g = record { active = active_message g.active; key-is = g.key-is; nonce-is = g.nonce-is }
   message_stays_active r input (Err x) g = g
@@ -168,7 +167,7 @@ released-header v e r w [] =
     ap (λ (l : List ℕ). released (params_of v) (reader_of r.loads r.initial r.phase l r.body))
     (append-nil r.header)
 released-header v e r w (x ∷ input) =
-    ap (λ (k : AeadResult). released (params_of v) (read_header k r (x ∷ input)).reader) (aad_some r.phase (length input))
+    ap (λ (k : Result ℕ AeadError). released (params_of v) (read_header k r (x ∷ input)).reader) (aad_some r.phase (length input))
     ∙ released-more (params_of v) r.phase r.loads r.initial r.header r.body w.mac
     w.phase_invariant x input
 
@@ -180,7 +179,7 @@ unfolding wrote read
 released-message v e r w input out =
     by (data_check (params_of v) r.phase (reader_held (params_of v) r) (length input) (length out)) refl
   where
-    by : (k : AeadResult) → data_check (params_of v) r.phase (reader_held (params_of v) r) (length input) (length out) ≡ k
+    by : (k : Result ℕ AeadError) → data_check (params_of v) r.phase (reader_held (params_of v) r) (length input) (length out) ≡ k
         → released (params_of v) (read v r (Call.Data input out)).reader
         ≡ released (params_of v) r ++ wrote (step e (Call.Data input out))
     by (Ok n) h =
@@ -191,7 +190,7 @@ released-message v e r w input out =
     by (Err x) h =
         let o : (step e (Call.Data input out)).outcome ≡ Outcome.no (refusal x) =
         message-outcome v e r w input out ∙ ap outcome h in
-        ap (λ (k : AeadResult). released (params_of v) (read_message k r input).reader) h
+        ap (λ (k : Result ℕ AeadError). released (params_of v) (read_message k r input).reader) h
         ∙ unwritten (released (params_of v) r) _ (ap (λ (y : Outcome). take (count_of y) (step e (Call.Data input out)).buffer) o)
 
 -- what calls between start and end give is what they wrote
@@ -224,22 +223,22 @@ released-from v e r w (c ∷ calls) b =
 
 -- ---- What was accepted is what the reader keeps
 
-header-by : (k : AeadResult) (e : SparkleEngine) (r : Reader) (input : List ℕ)
+header-by : (k : Result ℕ AeadError) (e : SparkleEngine) (r : Reader) (input : List ℕ)
     → (read_header k r input).reader.header ≡ r.header ++ if_ok (outcome (aad_by k e input).answer) input
 header-by (Ok n) e r [] = refl
 header-by (Ok n) e r (x ∷ input) = refl
 header-by (Err x) e r input = sym (append-nil r.header)
 
-header_body_by : (k : AeadResult) (r : Reader) (input : List ℕ) → (read_header k r input).reader.body ≡ r.body
+header_body_by : (k : Result ℕ AeadError) (r : Reader) (input : List ℕ) → (read_header k r input).reader.body ≡ r.body
 header_body_by (Ok n) r input = refl
 header_body_by (Err x) r input = refl
 
-data-by : (k : AeadResult) (r : Reader) (input : List ℕ) → (read_message k r input).reader.body
+data-by : (k : Result ℕ AeadError) (r : Reader) (input : List ℕ) → (read_message k r input).reader.body
     ≡ r.body ++ if_ok (outcome k) input
 data-by (Ok n) r input = refl
 data-by (Err x) r input = sym (append-nil r.body)
 
-data_header_by : (k : AeadResult) (r : Reader) (input : List ℕ) → (read_message k r input).reader.header ≡ r.header
+data_header_by : (k : Result ℕ AeadError) (r : Reader) (input : List ℕ) → (read_message k r input).reader.header ≡ r.header
 data_header_by (Ok n) r input = refl
 data_header_by (Err x) r input = refl
 
@@ -258,7 +257,7 @@ header-outcome v e r w input =
     let K = engine_of v r w.mac w.steps in
     ap (λ (x : SparkleEngine). outcome (aad_by (aad_check x.current.phase (length input)) x input).answer)
     w.same-engine
-    ∙ ap (λ (k : AeadResult). outcome (aad_by k K input).answer) (header-answer v r w.mac w.steps (length input))
+    ∙ ap (λ (k : Result ℕ AeadError). outcome (aad_by k K input).answer) (header-answer v r w.mac w.steps (length input))
 
 header_step_accepted : (v : SparkleVariant) (e : SparkleEngine) (r : Reader) → Invariant v e r → (c : Call) → Between e c
     → (read v r c).reader.header ≡ r.header ++ if_ok (step e c).outcome (header_in c)
@@ -319,10 +318,10 @@ data_accepted_from v e r w (c ∷ calls) b =
 abbrev pub started_reader : Reader → Direction → (key nonce header : List ℕ) → Reader
 started_reader r d key nonce header = reader_of (after_load r.loads key nonce) header (header_phase d header) header []
 
-start-answered : (k : AeadInitResult) (e : SparkleEngine) (d : Direction) (key nonce header : List ℕ)
+start-answered : (k : Result (Unit {0}) AeadInitError) (e : SparkleEngine) (d : Direction) (key nonce header : List ℕ)
     → (init_by k e d key nonce header).answer ≡ k
-start-answered StartOk e d key nonce header = refl
-start-answered (StartErr x) e d key nonce header = refl
+start-answered (Ok _) e d key nonce header = refl
+start-answered (Err x) e d key nonce header = refl
 
 pub start-outcome : (v : SparkleVariant) (e : SparkleEngine) (r : Reader) → Invariant v e r
     → (d : Direction) (key nonce : List ℕ) (size : ℕ) (h : List ℕ)
@@ -345,10 +344,10 @@ pub start-read : (v : SparkleVariant) (e : SparkleEngine) (r : Reader) → Invar
 start-read v e r w d key nonce size h n o =
     by (start_check v d (length key) (length nonce) size (repeated r key nonce)) refl
   where
-    by : (k : AeadInitResult) → start_check v d (length key) (length nonce) size (repeated r key nonce) ≡ k
+    by : (k : Result (Unit {0}) AeadInitError) → start_check v d (length key) (length nonce) size (repeated r key nonce) ≡ k
         → (read v r (Call.Init d key nonce size h)).reader ≡ started_reader r d key nonce h
-    by StartOk q = unfold read in ap (λ (k : AeadInitResult). (read_start k r d key nonce h).reader) q
-    by (StartErr x) q =
+    by (Ok _) q = unfold read in ap (λ (k : Result (Unit {0}) AeadInitError). (read_start k r d key nonce h).reader) q
+    by (Err x) q =
         absurd (let s = sym o ∙ start-outcome v e r w d key nonce size h ∙ ap start_outcome q in let z : ◌≡◌ {A = ℕ} 0 1 = cc in omega arith)
 
 started_active : (r : Reader) (d : Direction) (key nonce header : List ℕ)
@@ -417,7 +416,7 @@ end_checked : (v : SparkleVariant) (e : SparkleEngine) (r : Reader) → Invarian
     → (m : ℕ) × (end_check (params_of v) r.phase (reader_held (params_of v) r) (length out) ≡ Ok m)
 end_checked v e r w out n o = by (end_check (params_of v) r.phase (reader_held (params_of v) r) (length out)) refl
   where
-    by : (x : AeadResult) → end_check (params_of v) r.phase (reader_held (params_of v) r) (length out) ≡ x
+    by : (x : Result ℕ AeadError) → end_check (params_of v) r.phase (reader_held (params_of v) r) (length out) ≡ x
         → (m : ℕ) × (end_check (params_of v) r.phase (reader_held (params_of v) r) (length out) ≡ Ok m)
     by (Ok m) q = (m, q)
     by (Err x) q = absurd (let s = sym o ∙ end_refused v e r w out x q in let z : ◌≡◌ {A = ℕ} 0 1 = cc in omega arith)

@@ -1,13 +1,12 @@
 -- What the claims of demand 2 say about lists of calls. The words of demand 1 are those of Refused.antt.
-use Rattle.std.specs.Prelude.{◌≡◌, ◌↔◌, Bool, true, false, cond, List, [], ◌∷◌, ◌++◌, ℕ, ◌+◌, ◌%◌, ◌^◌, ◌≤◌, ◌<◌, length, take, drop}
+use Rattle.std.specs.Prelude.{◌≡◌, ◌↔◌, Bool, true, false, cond, List, [], ◌∷◌, ◌++◌, ℕ, ◌+◌, ◌%◌, ◌^◌, ◌≤◌, ◌<◌, length, take, drop, Result, Ok, Err}
 use Rattle.schwaemm.specs.Blocks.{ready, given}
 use Rattle.schwaemm.specs.Schwaemm.{Params, crypt, prepared, message_block, seal, decrypt, tag, body as body_of, verified, steps}
 use Rattle.tc_aead_cipher.specs.declared.variant.SparkleVariant.{SparkleVariant}
 use Rattle.tc_aead_cipher.specs.declared.phase.Direction.{Direction}
 use Rattle.tc_aead_cipher.specs.declared.phase.Phase.{Phase}
 use Rattle.tc_aead_cipher.specs.declared.phase.Phase.TheVariants.{Uninitialized, Init, Aad, Data, Final}
-use Rattle.tc_aead_cipher.specs.declared.aead_error.AeadResult.{AeadResult}
-use Rattle.tc_aead_cipher.specs.declared.aead_error.AeadResult.TheVariants.{Ok, Err}
+use Rattle.tc_aead_cipher.specs.declared.aead_error.AeadError.{AeadError}
 use Rattle.tc_sparkle_aead.specs.declared.engine.SparkleEngine.{SparkleEngine}
 use Rattle.tc_aead_cipher.specs.Variant.{params_of}
 use Rattle.tc_aead_cipher.specs.Checks.{opening, keep, update_len, total_len, aad_check, data_check, end_check, start_check}
@@ -226,7 +225,7 @@ abbrev pub open_outcome : Bool → ℕ → Outcome
 open_outcome true n = Outcome.ok n
 open_outcome false n = Outcome.no (6 ∷ [])
 
-abbrev pub end_outcome : AeadResult → (opens tag_right : Bool) → Outcome
+abbrev pub end_outcome : Result ℕ AeadError → (opens tag_right : Bool) → Outcome
 end_outcome (Err x) opens tag_right = outcome (Err x)
 end_outcome (Ok n) true tag_right = open_outcome tag_right n
 end_outcome (Ok n) false tag_right = Outcome.ok n
@@ -304,7 +303,7 @@ pub record OpenEndExact (v : SparkleVariant) (r : Reader) (n : ℕ) (o : Outcome
 
 -- Whether a tag can be read after a call, from what the reader kept before it. An end that is taken makes it readable,
 -- unless an opening's packet is not verified; a start and a reset drop it; no other call changes it.
-abbrev pub shown_by_end : AeadResult → (opens tag_right before : Bool) → Bool
+abbrev pub shown_by_end : Result ℕ AeadError → (opens tag_right before : Bool) → Bool
 shown_by_end (Err x) opens tag_right before = before
 shown_by_end (Ok n) true tag_right before = tag_right
 shown_by_end (Ok n) false tag_right before = true

@@ -1,6 +1,6 @@
 -- The plain reader of document 01, "Two lists, two sheets": it is fed the variant and the calls' arguments, no answers and
 -- nothing of the engine, and notes a verdict at each call. It shares the tables of checks with the engine.
-use Rattle.std.specs.Prelude.{ℕ, ◌-◌, ◌*◌, Bool, true, false, ◌&&◌, ◌||◌, List, [], ◌∷◌, ◌++◌, length, take}
+use Rattle.std.specs.Prelude.{ℕ, ◌-◌, ◌*◌, Bool, true, false, ◌&&◌, ◌||◌, List, [], ◌∷◌, ◌++◌, length, take, Result, Ok, Err}
 use Rattle.schwaemm.specs.Bytes.{same}
 use Rattle.schwaemm.specs.Blocks.{ready}
 use Rattle.schwaemm.specs.Schwaemm.{Params, verified}
@@ -9,13 +9,10 @@ use Rattle.tc_aead_cipher.specs.declared.phase.Direction.{Direction}
 use Rattle.tc_aead_cipher.specs.declared.phase.Direction.TheVariants.{Encrypt, Decrypt}
 use Rattle.tc_aead_cipher.specs.declared.phase.Phase.{Phase}
 use Rattle.tc_aead_cipher.specs.declared.phase.Phase.TheVariants.{Uninitialized, Init, Aad, Data, Final}
-use Rattle.tc_aead_cipher.specs.declared.aead_error.AeadResult.{AeadResult}
-use Rattle.tc_aead_cipher.specs.declared.aead_error.AeadResult.TheVariants.{Ok, Err}
+use Rattle.tc_aead_cipher.specs.declared.aead_error.AeadError.{AeadError}
 use Rattle.tc_aead_cipher.specs.declared.aead_init_error.AeadInitError.{AeadInitError}
 use Rattle.tc_aead_cipher.specs.declared.aead_init_error.AeadInitError.TheVariants.{InvalidKeyLength, InvalidNonceLength}
 use Rattle.tc_aead_cipher.specs.declared.aead_init_error.AeadInitError.TheVariants.{InvalidMacSize, NonceReuse}
-use Rattle.tc_aead_cipher.specs.declared.aead_init_error.AeadInitResult.{AeadInitResult}
-use Rattle.tc_aead_cipher.specs.declared.aead_init_error.AeadInitResult.TheVariants.{Ok as StartOk, Err as StartErr}
 use Rattle.tc_aead_cipher.specs.Variant.{params_of}
 use Rattle.tc_aead_cipher.specs.Checks.{keep, aad_check, data_check, end_check, start_check}
 use Rattle.tc_aead_cipher.specs.Call.{Call}
@@ -115,10 +112,10 @@ refused_verdict (InvalidNonceLength n) d repeats = None
 refused_verdict (InvalidMacSize n) d repeats = None
 refused_verdict NonceReuse d repeats = start_verdict d repeats
 
-abbrev pub read_start : AeadInitResult → Reader → Direction → List ℕ → List ℕ → List ℕ → ReadResult
-read_start (StartErr x) r d key nonce h =
+abbrev pub read_start : Result (Unit {0}) AeadInitError → Reader → Direction → List ℕ → List ℕ → List ℕ → ReadResult
+read_start (Err x) r d key nonce h =
     record { verdict = refused_verdict x d (repeated r key nonce); reader = forgotten r }
-read_start StartOk r d key nonce h =
+read_start (Ok _) r d key nonce h =
     record {
       verdict = start_verdict d (repeated r key nonce);
       reader =
@@ -148,11 +145,11 @@ data_phase (Data d) = Data d
 data_phase (Final d) = Final d
 
 -- An accepted header call appends its input to the header, an accepted data call to the data.
-abbrev pub read_header : AeadResult → Reader → List ℕ → ReadResult
+abbrev pub read_header : Result ℕ AeadError → Reader → List ℕ → ReadResult
 read_header (Err x) r input = nothing r
 read_header (Ok n) r input = nothing (in_phase r (aad_phase r.phase input) (r.header ++ input) r.body)
 
-abbrev pub read_message : AeadResult → Reader → List ℕ → ReadResult
+abbrev pub read_message : Result ℕ AeadError → Reader → List ℕ → ReadResult
 read_message (Err x) r input = nothing r
 read_message (Ok n) r input = nothing (in_phase r (data_phase r.phase) r.header (r.body ++ input))
 
@@ -173,7 +170,7 @@ end_in (Aad d) p r = end_by d p r
 end_in (Data d) p r = end_by d p r
 end_in (Final d) p r = nothing r
 
-abbrev pub read_end : AeadResult → Params → Reader → ReadResult
+abbrev pub read_end : Result ℕ AeadError → Params → Reader → ReadResult
 read_end (Err x) p r = nothing r
 read_end (Ok n) p r = end_in r.phase p r
 

@@ -4,9 +4,9 @@ ghost use Rattle.std.specs.Prelude.{◌≡◌};
 ghost use Rattle.tc_sparkle_aead.specs.Calls.{init};
 
 use super::aead_cipher;
-use tc_aead_cipher::aead_init_error::AeadInitResult;
+use tc_aead_cipher::aead_init_error::AeadInitError;
 use tc_aead_cipher::phase::Direction;
-use tc_sparkle_aead::engine::{SparkleEngine, Started};
+use tc_sparkle_aead::engine::{Done, SparkleEngine};
 
 #[derive(Clone, Copy)]
 pub struct AeadParamsRef<'a> {
@@ -17,13 +17,11 @@ pub struct AeadParamsRef<'a> {
 }
 
 impl<'a> AeadParamsRef<'a> {
-    pub fn new(
-        key: &'a [u8],
-        nonce: &'a [u8],
-        mac_size: usize,
-        initial_aad: &'a [u8],
-    ) -> AeadParamsRef<'a>
-        ensures { (result.key ≡ key.entry) × (result.nonce ≡ nonce.entry) × (result.initial_aad ≡ initial_aad.entry) × (result.mac_size ≡ mac_size) }
+    pub fn new(key: &'a [u8], nonce: &'a [u8], mac_size: usize, initial_aad: &'a [u8]) -> Self
+        ensures key_kept { result.key ≡ key.entry }
+        ensures nonce_kept { result.nonce ≡ nonce.entry }
+        ensures initial_aad_kept { result.initial_aad ≡ initial_aad.entry }
+        ensures mac_size_kept { result.mac_size ≡ mac_size }
     {
         AeadParamsRef {
             key,
@@ -35,13 +33,13 @@ impl<'a> AeadParamsRef<'a> {
 }
 
 // An init with what the parameters borrow.
-pub fn init_with<'s, 'a>(
-    e: &'s mut SparkleEngine,
+pub fn init_with(
+    e: &mut SparkleEngine,
     direction: Direction,
-    params: AeadParamsRef<'a>,
-) -> AeadInitResult
-    ensures { (result ≡ (init e.old direction params.entry.key.now params.entry.nonce.now params.entry.mac_size params.entry.initial_aad.now).answer)
-        × (e.new ≡ (init e.old direction params.entry.key.now params.entry.nonce.now params.entry.mac_size params.entry.initial_aad.now).engine) }
+    params: AeadParamsRef<'_>,
+) -> Result<(), AeadInitError>
+    ensures value { result ≡ (init e.old direction params.entry.key.now params.entry.nonce.now params.entry.mac_size params.entry.initial_aad.now).answer }
+    ensures engine_after { e.new ≡ (init e.old direction params.entry.key.now params.entry.nonce.now params.entry.mac_size params.entry.initial_aad.now).engine }
 {
     aead_cipher::init(
         e,
@@ -55,20 +53,20 @@ pub fn init_with<'s, 'a>(
 
 // The same of an engine by value and of plain parameters: whoever calls it needs no reference to an
 // engine and no AeadParamsRef.
-pub fn init_owned<'a>(
+pub fn init_owned(
     e: SparkleEngine,
     direction: Direction,
-    key: &'a [u8],
-    nonce: &'a [u8],
+    key: &[u8],
+    nonce: &[u8],
     mac_size: usize,
-    initial_aad: &'a [u8],
-) -> Started
+    initial_aad: &[u8],
+) -> Done<Result<(), AeadInitError>>
     ensures { result ≡ init e direction key.now nonce.now mac_size initial_aad.now }
 {
     let mut lent = e;
     let params = AeadParamsRef::new(key, nonce, mac_size, initial_aad);
     let answer = init_with(&mut lent, direction, params);
-    Started {
+    Done {
         answer,
         engine: lent,
     }

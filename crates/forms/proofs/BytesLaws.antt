@@ -1,72 +1,90 @@
 -- Bytes of a kind: all of a text, and those in front.
-use mathlib.Core.Path.{◌≡◌, refl, sym, ap}
+use mathlib.Core.Path.{◌≡◌, refl, sym, ap, subst}
 use mathlib.Core.Bool.{Bool, true, false, ◌&&◌, and_assoc, and-eq-true_iff}
 use mathlib.Core.Logic.{◌⊎◌, inl, inr}
 use mathlib.Core.List.{List, [], ◌∷◌, ◌++◌}
-use Prim.Native.Nat.{ℕ, suc, ◌≤◌, ◌<◌}
+use Prim.Native.Nat.{ℕ, zero, suc, ◌+◌, ◌≤◌, ◌<◌}
 use Prim.Native.Char.{code}
 use native.Mathlib.Omega.{arith}
-use borrow.Author.Tests.{leb-true, ne_eqb}
-use lib.Dec.{leb}
+use borrow.Author.Tests.{ltb-true, ltb-false, leb-true, ne_eqb}
+use lib.Dec.{ltb, leb}
 use lib.ListN.{length, get_or, take}
 use lib.Seq.{take-length}
-use Rattle.forms.specs.declared.bytes.ByteKind.{ByteKind}
-use Rattle.forms.specs.declared.bytes.ByteKind.TheVariants.{Letter, Digit, HexDigit, Item, Line}
-use Rattle.forms.specs.Bytes.{is_kind, all, front}
+use Rattle.forms.specs.Bytes.{all, front, is_letter, is_digit, is_hex_digit, is_item, is_line}
 
-pub all_cons : (kind : ByteKind) (b : ℕ) (s : List ℕ) → all kind (b ∷ s) ≡ true
-    → (is_kind kind b ≡ true) × (all kind s ≡ true)
-all_cons kind b s = (and-eq-true_iff (is_kind kind b) (all kind s)).0
+pub all_cons : (kind : ℕ → Bool) (b : ℕ) (s : List ℕ) → all kind (b ∷ s) ≡ true
+    → (kind b ≡ true) × (all kind s ≡ true)
+all_cons kind b s = (and-eq-true_iff (kind b) (all kind s)).0
 
-pub front-all : (kind : ByteKind) (s : List ℕ) → all kind s ≡ true → front kind s ≡ length s
+pub front-all : (kind : ℕ → Bool) (s : List ℕ) → all kind s ≡ true → front kind s ≡ length s
 front-all kind [] h = refl
 front-all kind (b ∷ s) h =
     let g = all_cons kind b s h in
     rw g.0 (ap suc (front-all kind s g.1))
 
-pub front-run : (kind : ByteKind) (s : List ℕ) (d : ℕ) (rest : List ℕ) → all kind s ≡ true → is_kind kind d ≡ false
+pub front-run : (kind : ℕ → Bool) (s : List ℕ) (d : ℕ) (rest : List ℕ) → all kind s ≡ true → kind d ≡ false
     → front kind (s ++ (d ∷ rest)) ≡ length s
 front-run kind [] d rest h n = rw n refl
 front-run kind (b ∷ s) d rest h n =
     let g = all_cons kind b s h in
     rw g.0 (ap suc (front-run kind s d rest g.1 n))
 
-pub front_le : (kind : ByteKind) (s : List ℕ) → front kind s ≤ length s
+pub front_le : (kind : ℕ → Bool) (s : List ℕ) → front kind s ≤ length s
 front_le kind [] = omega arith
-front_le kind (b ∷ s) = go (front_le kind s) (is_kind kind b) refl
+front_le kind (b ∷ s) = go (front_le kind s) (kind b) refl
   where
-    go : front kind s ≤ length s → (t : Bool) → is_kind kind b ≡ t → front kind (b ∷ s) ≤ length (b ∷ s)
+    go : front kind s ≤ length s → (t : Bool) → kind b ≡ t → front kind (b ∷ s) ≤ length (b ∷ s)
     go f true e = rw e (omega arith)
     go f false e = rw e (omega arith)
 
-pub front-taken : (kind : ByteKind) (s : List ℕ) → all kind (take (front kind s) s) ≡ true
+pub front-taken : (kind : ℕ → Bool) (s : List ℕ) → all kind (take (front kind s) s) ≡ true
 front-taken kind [] = refl
-front-taken kind (b ∷ s) = go (front-taken kind s) (is_kind kind b) refl
+front-taken kind (b ∷ s) = go (front-taken kind s) (kind b) refl
   where
-    go : all kind (take (front kind s) s) ≡ true → (t : Bool) → is_kind kind b ≡ t
+    go : all kind (take (front kind s) s) ≡ true → (t : Bool) → kind b ≡ t
         → all kind (take (front kind (b ∷ s)) (b ∷ s)) ≡ true
     go f true e = rw (e, e) f
     go f false e = rw e refl
 
-pub front-whole : (kind : ByteKind) (s : List ℕ) → front kind s ≡ length s → all kind s ≡ true
+pub front-whole : (kind : ℕ → Bool) (s : List ℕ) → front kind s ≡ length s → all kind s ≡ true
 front-whole kind s e = rw (e, take-length s) at (front-taken kind s)
 
-pub front_stop : (kind : ByteKind) (s : List ℕ) → front kind s < length s
-    → is_kind kind (get_or s (front kind s) 0) ≡ false
+pub front_stop : (kind : ℕ → Bool) (s : List ℕ) → front kind s < length s
+    → kind (get_or s (front kind s) 0) ≡ false
 front_stop kind [] h = absurd (omega arith)
-front_stop kind (b ∷ s) h = go (front_stop kind s) (is_kind kind b) refl h
+front_stop kind (b ∷ s) h = go (front_stop kind s) (kind b) refl h
   where
-    go : (front kind s < length s → is_kind kind (get_or s (front kind s) 0) ≡ false) → (t : Bool) → is_kind kind b ≡ t
-        → front kind (b ∷ s) < length (b ∷ s) → is_kind kind (get_or (b ∷ s) (front kind (b ∷ s)) 0) ≡ false
+    go : (front kind s < length s → kind (get_or s (front kind s) 0) ≡ false) → (t : Bool) → kind b ≡ t
+        → front kind (b ∷ s) < length (b ∷ s) → kind (get_or (b ∷ s) (front kind (b ∷ s)) 0) ≡ false
     go f true e g = rw e (f (omega (arith, rw e at g)))
     go f false e g = rw e e
 
-pub all_append : (kind : ByteKind) (s t : List ℕ) → all kind (s ++ t) ≡ (all kind s && all kind t)
+-- What holds below n, and of n.
+pub one_more : (P : ℕ → Type 0) (n : ℕ) → ((k : ℕ) → k < n → P k) → P n → (k : ℕ) → k < n + 1 → P k
+one_more P n f p k h = go (ltb k n) refl
+  where
+    go : (t : Bool) → ltb k n ≡ t → P k
+    go true e = f k (ltb-true k n e)
+    go false e =
+        let q : n ≡ k = omega (arith, ltb-false k n e) in
+        subst P q p
+
+-- As many stand in front as are of the kind, where the next is none.
+pub front_first : (kind : ℕ → Bool) (s : List ℕ) (n : ℕ) → n ≤ length s
+    → ((k : ℕ) → k < n → kind (get_or s k 0) ≡ true) → (n < length s → kind (get_or s n 0) ≡ false)
+    → n ≡ front kind s
+front_first kind [] n h f g = omega arith
+front_first kind (b ∷ s) zero h f g = rw (g (omega arith)) refl
+front_first kind (b ∷ s) (suc n) h f g =
+    let here : kind b ≡ true = f 0 (omega arith) in
+    rw here (ap suc (front_first kind s n (omega arith) (λ k l. f (suc k) (omega arith)) (λ l. g (omega arith))))
+
+pub all_append : (kind : ℕ → Bool) (s t : List ℕ) → all kind (s ++ t) ≡ (all kind s && all kind t)
 all_append kind [] t = refl
-all_append kind (b ∷ s) t = rw (all_append kind s t) (sym (and_assoc (is_kind kind b) (all kind s) (all kind t)))
+all_append kind (b ∷ s) t = rw (all_append kind s t) (sym (and_assoc (kind b) (all kind s) (all kind t)))
 
 -- A kind within a wider one.
-pub all_weaken : (kind wider : ByteKind) → ((b : ℕ) → is_kind kind b ≡ true → is_kind wider b ≡ true) → (s : List ℕ)
+pub all_weaken : (kind wider : ℕ → Bool) → ((b : ℕ) → kind b ≡ true → wider b ≡ true) → (s : List ℕ)
     → all kind s ≡ true → all wider s ≡ true
 all_weaken kind wider f [] h = refl
 all_weaken kind wider f (b ∷ s) h =
@@ -74,25 +92,25 @@ all_weaken kind wider f (b ∷ s) h =
     rw (f b g.0) (all_weaken kind wider f s g.1)
 
 -- The codes of a kind's bytes.
-pub letter_range : (b : ℕ) → is_kind Letter b ≡ true → (code "a" ≤ b) × (b ≤ code "z")
+pub letter_range : (b : ℕ) → is_letter b ≡ true → (code "a" ≤ b) × (b ≤ code "z")
 letter_range b h = let g = (and-eq-true_iff _ _).0 h in (leb-true _ _ g.0, leb-true _ _ g.1)
 
-pub digit_range : (b : ℕ) → is_kind Digit b ≡ true → (code "0" ≤ b) × (b ≤ code "9")
+pub digit_range : (b : ℕ) → is_digit b ≡ true → (code "0" ≤ b) × (b ≤ code "9")
 digit_range b h = let g = (and-eq-true_iff _ _).0 h in (leb-true _ _ g.0, leb-true _ _ g.1)
 
 abbrev pub HexRange : ℕ → Type 0
 HexRange b = ((code "0" ≤ b) × (b ≤ code "9")) ⊎ ((code "a" ≤ b) × (b ≤ code "f"))
 
-pub hex_range : (b : ℕ) → is_kind HexDigit b ≡ true → HexRange b
-hex_range b h = go (is_kind Digit b) refl
+pub hex_range : (b : ℕ) → is_hex_digit b ≡ true → HexRange b
+hex_range b h = go (is_digit b) refl
   where
-    go : (t : Bool) → is_kind Digit b ≡ t → HexRange b
+    go : (t : Bool) → is_digit b ≡ t → HexRange b
     go true e = inl (digit_range b e)
     go false e =
         let g = (and-eq-true_iff (leb (code "a") b) (leb b (code "f"))).0 (rw e at h) in
         inr (leb-true _ _ g.0, leb-true _ _ g.1)
 
-pub hex_within : (b : ℕ) → is_kind HexDigit b ≡ true → (code "0" ≤ b) × (b ≤ code "f")
+pub hex_within : (b : ℕ) → is_hex_digit b ≡ true → (code "0" ≤ b) × (b ≤ code "f")
 hex_within b h = go (hex_range b h)
   where
     go : HexRange b → (code "0" ≤ b) × (b ≤ code "f")
@@ -100,29 +118,23 @@ hex_within b h = go (hex_range b h)
     go (inr g) = omega arith
 
 -- No blank, bracket or newline from `0` on.
-high_item : (b : ℕ) → code "0" ≤ b → is_kind Item b ≡ true
+high_item : (b : ℕ) → code "0" ≤ b → is_item b ≡ true
 high_item b h = rw (ne_eqb b (code " ") (omega arith), ne_eqb b (code ")") (omega arith)) refl
 
-high_line : (b : ℕ) → code "0" ≤ b → is_kind Line b ≡ true
+high_line : (b : ℕ) → code "0" ≤ b → is_line b ≡ true
 high_line b h = rw (ne_eqb b (code "\n") (omega arith)) refl
 
-pub all_digit_hex : (s : List ℕ) → all Digit s ≡ true → all HexDigit s ≡ true
-all_digit_hex = all_weaken Digit HexDigit (λ b h. rw h refl)
+pub all_digit_hex : (s : List ℕ) → all is_digit s ≡ true → all is_hex_digit s ≡ true
+all_digit_hex = all_weaken is_digit is_hex_digit (λ b h. rw h refl)
 
-pub all_digit_item : (s : List ℕ) → all Digit s ≡ true → all Item s ≡ true
-all_digit_item = all_weaken Digit Item (λ b h. high_item b (digit_range b h).0)
+pub all_digit_item : (s : List ℕ) → all is_digit s ≡ true → all is_item s ≡ true
+all_digit_item = all_weaken is_digit is_item (λ b h. high_item b (digit_range b h).0)
 
-pub all_hex_item : (s : List ℕ) → all HexDigit s ≡ true → all Item s ≡ true
-all_hex_item = all_weaken HexDigit Item (λ b h. high_item b (hex_within b h).0)
+pub all_hex_item : (s : List ℕ) → all is_hex_digit s ≡ true → all is_item s ≡ true
+all_hex_item = all_weaken is_hex_digit is_item (λ b h. high_item b (hex_within b h).0)
 
-pub all_letter_item : (s : List ℕ) → all Letter s ≡ true → all Item s ≡ true
-all_letter_item = all_weaken Letter Item (λ b h. high_item b (omega (arith, (letter_range b h).0)))
+pub all_digit_line : (s : List ℕ) → all is_digit s ≡ true → all is_line s ≡ true
+all_digit_line = all_weaken is_digit is_line (λ b h. high_line b (digit_range b h).0)
 
-pub all_digit_line : (s : List ℕ) → all Digit s ≡ true → all Line s ≡ true
-all_digit_line = all_weaken Digit Line (λ b h. high_line b (digit_range b h).0)
-
-pub all_hex_line : (s : List ℕ) → all HexDigit s ≡ true → all Line s ≡ true
-all_hex_line = all_weaken HexDigit Line (λ b h. high_line b (hex_within b h).0)
-
-pub all_letter_line : (s : List ℕ) → all Letter s ≡ true → all Line s ≡ true
-all_letter_line = all_weaken Letter Line (λ b h. high_line b (omega (arith, (letter_range b h).0)))
+pub all_hex_line : (s : List ℕ) → all is_hex_digit s ≡ true → all is_line s ≡ true
+all_hex_line = all_weaken is_hex_digit is_line (λ b h. high_line b (hex_within b h).0)

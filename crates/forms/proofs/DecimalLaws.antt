@@ -13,9 +13,8 @@ use borrow.Author.Tests.{ltb-true, ltb-false, lt-ltb, le-ltb, le-leb, eqb-false,
 use lib.Dec.{ltb, eqb}
 use lib.ListN.{length, get_or, length-append, get_or-append}
 use lib.Seq.{append_snoc}
-use Rattle.forms.specs.declared.bytes.ByteKind.TheVariants.{Digit, Item, Line}
-use Rattle.forms.specs.declared.decimal.Number.TheVariants.{Is, Not}
-use Rattle.forms.specs.Bytes.{is_kind, all}
+use Rattle.std.specs.Prelude.{Some, None}
+use Rattle.forms.specs.Bytes.{all, is_digit, is_item, is_line}
 use Rattle.forms.specs.Decimal.{digit, decimal_in, decimal, with_digit, decimal_from, decimal_of}
 use Rattle.forms.proofs.BytesLaws.{all_cons, all_append, digit_range, all_digit_item, all_digit_line}
 
@@ -96,19 +95,19 @@ decimal-length n =
     more m s h f (suc j) g =
         omega (arith, length-append s (digit (m % 10)), f j (omega (arith, pow-suc 10 (suc j))))
 
-digit-is : (d : ℕ) → d < 10 → all Digit (digit d) ≡ true
+digit-is : (d : ℕ) → d < 10 → all is_digit (digit d) ≡ true
 digit-is d h = rw (le-leb (code "0") (code "0" + d) (omega arith), le-leb (code "0" + d) (code "9") (omega arith)) refl
 
-pub decimal_digits : (n : ℕ) → all Digit (decimal n) ≡ true
-decimal_digits n = by_digits (λ (m : ℕ) (s : List ℕ). all Digit s ≡ true) digit-is more n n (omega arith)
+pub decimal_digits : (n : ℕ) → all is_digit (decimal n) ≡ true
+decimal_digits n = by_digits (λ (m : ℕ) (s : List ℕ). all is_digit s ≡ true) digit-is more n n (omega arith)
   where
-    more : (m : ℕ) (s : List ℕ) → 10 ≤ m → all Digit s ≡ true → all Digit (s ++ digit (m % 10)) ≡ true
-    more m s h f = rw (all_append Digit s (digit (m % 10)), f) (digit-is (m % 10) (omega arith))
+    more : (m : ℕ) (s : List ℕ) → 10 ≤ m → all is_digit s ≡ true → all is_digit (s ++ digit (m % 10)) ≡ true
+    more m s h f = rw (all_append is_digit s (digit (m % 10)), f) (digit-is (m % 10) (omega arith))
 
-pub decimal-item : (n : ℕ) → all Item (decimal n) ≡ true
+pub decimal-item : (n : ℕ) → all is_item (decimal n) ≡ true
 decimal-item n = all_digit_item (decimal n) (decimal_digits n)
 
-pub decimal-line : (n : ℕ) → all Line (decimal n) ≡ true
+pub decimal-line : (n : ℕ) → all is_line (decimal n) ≡ true
 decimal-line n = all_digit_line (decimal n) (decimal_digits n)
 
 pub decimal_some : (n : ℕ) → 0 < length (decimal n)
@@ -118,7 +117,7 @@ decimal_some n =
     n n (omega arith)
 
 -- A digit behind a number that is not 0.
-decimal-more : (n b : ℕ) → 0 < n → is_kind Digit b ≡ true → decimal n ++ (b ∷ []) ≡ decimal (n * 10 + (b - code "0"))
+decimal-more : (n b : ℕ) → 0 < n → is_digit b ≡ true → decimal n ++ (b ∷ []) ≡ decimal (n * 10 + (b - code "0"))
 decimal-more n b p h =
     let r = digit_range b h in
     let m = n * 10 + (b - code "0") in
@@ -127,11 +126,11 @@ decimal-more n b p h =
     sym (decimal_large m (omega arith) ∙ (λ i. decimal (e i) ++ (d i ∷ [])))
 
 -- Digits behind those of a number that is not 0.
-decimal-run : (s : List ℕ) (n : ℕ) → (0 < length s → 0 < n) → all Digit s ≡ true
+decimal-run : (s : List ℕ) (n : ℕ) → (0 < length s → 0 < n) → all is_digit s ≡ true
     → (m : ℕ) × (decimal n ++ s ≡ decimal m)
 decimal-run [] n p h = (n, append-nil (decimal n))
 decimal-run (b ∷ s) n p h =
-    let g = all_cons Digit b s h in
+    let g = all_cons is_digit b s h in
     let q = p (omega arith) in
     let r = decimal-run s (n * 10 + (b - code "0")) (λ l. omega arith) g.1 in
     (r.0, sym (append_snoc (decimal n) b s) ∙ ap (λ (a : List ℕ). a ++ s) (decimal-more n b q g.0) ∙ r.1)
@@ -141,11 +140,11 @@ abbrev pub ZeroAlone : List ℕ → Type 0
 ZeroAlone s = (length s ≡ 1) ⊎ (get_or s 0 0 ≢ code "0")
 
 -- Digits without a zero in front of others are a number's.
-pub number-text : (s : List ℕ) → 0 < length s → all Digit s ≡ true → ZeroAlone s
+pub number-text : (s : List ℕ) → 0 < length s → all is_digit s ≡ true → ZeroAlone s
     → (n : ℕ) × (s ≡ decimal n)
 number-text [] l h f = absurd (omega arith)
 number-text (b ∷ s) l h f =
-    let g = all_cons Digit b s h in
+    let g = all_cons is_digit b s h in
     let r = digit_range b g.0 in
     let e : code "0" + (b - code "0") ≡ b = omega arith in
     let d = decimal_small (b - code "0") (omega arith) in
@@ -178,29 +177,29 @@ unfolding value
 value_le [] n = omega arith
 value_le (b ∷ s) n = omega (arith, value_le s (n * 10 + (b - code "0")))
 
-not_is : (n : ℕ) → Not ≡ Is n → ⊥
+not_is : (n : ℕ) → None ≡ Some n → ⊥
 not_is n e = let z : ◌≡◌ {A = ℕ} 0 1 = cc in omega arith
 
 -- A reading is the value of digits, below 2^64.
-from-value : (s : List ℕ) (n : ℕ) → all Digit s ≡ true → value n s < 2 ^ 64 → decimal_from n s ≡ Is (value n s)
+from-value : (s : List ℕ) (n : ℕ) → all is_digit s ≡ true → value n s < 2 ^ 64 → decimal_from n s ≡ Some (value n s)
 unfolding decimal_from with_digit value
 from-value [] n h l = refl
 from-value (b ∷ s) n h l =
-    let g = all_cons Digit b s h in
+    let g = all_cons is_digit b s h in
     let m = n * 10 + (b - code "0") in
     rw (g.0, lt-ltb m (2 ^ 64) (omega (arith, value_le s m)), decimal_from) (from-value s m g.1 l)
 
-from_exactly : (s : List ℕ) (n m : ℕ) → n < 2 ^ 64 → decimal_from n s ≡ Is m
-    → (all Digit s ≡ true) × (value n s ≡ m) × (m < 2 ^ 64)
+from_exactly : (s : List ℕ) (n m : ℕ) → n < 2 ^ 64 → decimal_from n s ≡ Some m
+    → (all is_digit s ≡ true) × (value n s ≡ m) × (m < 2 ^ 64)
 unfolding decimal_from with_digit value
 from_exactly [] n m l e = let q : n ≡ m = cc in (refl, q, omega arith)
-from_exactly (b ∷ s) n m l e = go (is_kind Digit b) (ltb k (2 ^ 64)) (from_exactly s k m) refl refl
+from_exactly (b ∷ s) n m l e = go (is_digit b) (ltb k (2 ^ 64)) (from_exactly s k m) refl refl
   where
     k : ℕ
     k = n * 10 + (b - code "0")
 
-    go : (d t : Bool) → (k < 2 ^ 64 → decimal_from k s ≡ Is m → (all Digit s ≡ true) × (value k s ≡ m) × (m < 2 ^ 64))
-        → is_kind Digit b ≡ d → ltb k (2 ^ 64) ≡ t → (all Digit (b ∷ s) ≡ true) × (value k s ≡ m) × (m < 2 ^ 64)
+    go : (d t : Bool) → (k < 2 ^ 64 → decimal_from k s ≡ Some m → (all is_digit s ≡ true) × (value k s ≡ m) × (m < 2 ^ 64))
+        → is_digit b ≡ d → ltb k (2 ^ 64) ≡ t → (all is_digit (b ∷ s) ≡ true) × (value k s ≡ m) × (m < 2 ^ 64)
     go true true f d t = let r = f (ltb-true k (2 ^ 64) t) (rw (d, t, decimal_from) at e) in (rw d r.0, r.1, r.2)
     go true false f d t = absurd (not_is m (rw (d, t, decimal_from) at e))
     go false u f d t = absurd (not_is m (rw (d, decimal_from) at e))
@@ -216,7 +215,7 @@ unfolding decimal_of
 of-from s l (inl e) = rw (e, and-false) refl
 of-from s l (inr n) = rw (ne_eqb (length s) 0 (omega arith), ne_eqb (get_or s 0 0) (code "0") n) refl
 
-of_exactly : (s : List ℕ) (n : ℕ) → decimal_of s ≡ Is n → (0 < length s) × ZeroAlone s × (decimal_from 0 s ≡ Is n)
+of_exactly : (s : List ℕ) (n : ℕ) → decimal_of s ≡ Some n → (0 < length s) × ZeroAlone s × (decimal_from 0 s ≡ Some n)
 unfolding decimal_of
 of_exactly [] n e = absurd (not_is n e)
 of_exactly (b ∷ s) n e = go (eqb b (code "0")) (ltb 1 (length (b ∷ s))) refl refl
@@ -225,15 +224,15 @@ of_exactly (b ∷ s) n e = go (eqb b (code "0")) (ltb 1 (length (b ∷ s))) refl
     some = ne_eqb (length (b ∷ s)) 0 (omega arith)
 
     go : (z t : Bool) → eqb b (code "0") ≡ z → ltb 1 (length (b ∷ s)) ≡ t
-        → (0 < length (b ∷ s)) × ZeroAlone (b ∷ s) × (decimal_from 0 (b ∷ s) ≡ Is n)
+        → (0 < length (b ∷ s)) × ZeroAlone (b ∷ s) × (decimal_from 0 (b ∷ s) ≡ Some n)
     go true true z t = absurd (not_is n (rw (some, z, t) at e))
     go true false z t = (omega arith, inl (omega (arith, ltb-false 1 (length (b ∷ s)) t)), rw (some, z, t) at e)
     go false t z u = (omega arith, inr (eqb-false _ _ z), rw (some, z) at e)
 
-pub decimal_exactly : (s : List ℕ) (n : ℕ) → (decimal_of s ≡ Is n) ↔ ((s ≡ decimal n) × (n < 2 ^ 64))
+pub decimal_exactly : (s : List ℕ) (n : ℕ) → (decimal_of s ≡ Some n) ↔ ((s ≡ decimal n) × (n < 2 ^ 64))
 decimal_exactly s n = (to, λ p. ap decimal_of p.0 ∙ from p.1)
   where
-    to : decimal_of s ≡ Is n → (s ≡ decimal n) × (n < 2 ^ 64)
+    to : decimal_of s ≡ Some n → (s ≡ decimal n) × (n < 2 ^ 64)
     to e =
         let o = of_exactly s n e in
         let v = from_exactly s 0 n (omega arith) o.2 in
@@ -241,8 +240,8 @@ decimal_exactly s n = (to, λ p. ap decimal_of p.0 ∙ from p.1)
         let q : t.0 ≡ n = sym (value-decimal t.0) ∙ ap (value 0) (sym t.1) ∙ v.1 in
         (t.1 ∙ ap decimal q, v.2)
 
-    from : n < 2 ^ 64 → decimal_of (decimal n) ≡ Is n
+    from : n < 2 ^ 64 → decimal_of (decimal n) ≡ Some n
     from h =
         of-from (decimal n) (decimal_some n) (decimal_zero_alone n)
         ∙ from-value (decimal n) 0 (decimal_digits n) (omega (arith, value-decimal n))
-        ∙ ap Is (value-decimal n)
+        ∙ ap Some (value-decimal n)

@@ -13,14 +13,11 @@ use borrow.Author.Tests.{ltb-false, lt-ltb, le-ltb, leb-true, leb-false, le-leb,
 use lib.Dec.{ltb, leb, eqb}
 use lib.ListN.{get_or-append, length, get_or, take, drop, length-append, length-take, length-drop, take-append-drop}
 use lib.Seq.{take-add, drop-drop, get_or-drop, length-take-le, take-length, drop-append_seam}
-use Rattle.forms.specs.declared.bytes.ByteKind.{ByteKind}
-use Rattle.forms.specs.declared.bytes.ByteKind.TheVariants.{Letter, Digit, HexDigit}
-use Rattle.forms.specs.declared.form.End.{End}
-use Rattle.forms.specs.declared.form.End.TheVariants.{Behind, Stopped}
-use Rattle.forms.specs.Bytes.{text, is_kind, all, front}
+use Rattle.std.specs.Prelude.{Ok, Err}
+use Rattle.forms.specs.Bytes.{text, all, front, is_letter, is_digit, is_hex_digit}
 use Rattle.forms.specs.Decimal.{decimal}
 use Rattle.forms.specs.Hex.{hex, hex_bytes, are_bytes, is_hex}
-use Rattle.forms.specs.Form.{is_number, plain_end, is_open, open_end, onward, items_end, form_end}
+use Rattle.forms.specs.Form.{End, stop, is_number, plain_end, is_open, open_end, onward, items_end, form_end}
 use Rattle.forms.specs.Grammar.{Word, Item, Items, Never, Form}
 use Rattle.forms.specs.Grammar.Word.{letters}
 use Rattle.forms.specs.Grammar.Item.{word, number, bytes, form}
@@ -48,8 +45,8 @@ neither false d e = refl
 
 -- An end, seen from so many bytes before.
 abbrev pub moved : ℕ → End → End
-moved n (Behind m) = Behind (n + m)
-moved n (Stopped m) = Stopped (n + m)
+moved n (Ok m) = Ok (n + m)
+moved n (Err e) = stop (n + e.at)
 
 -- An item.
 abbrev pub item_end : (List ℕ → End) → List ℕ → End
@@ -57,35 +54,35 @@ item_end nested s = cond (is_open s) (nested s) (plain_end s)
 
 -- What follows a blank and an item, seen from the blank.
 abbrev pub beyond : End → (ℕ → End) → End
-beyond (Behind n) next = moved (suc n) (next n)
-beyond (Stopped n) next = Stopped (suc n)
+beyond (Ok n) next = moved (suc n) (next n)
+beyond (Err e) next = stop (suc e.at)
 
 -- The items from the front on.
 abbrev pub items_from : (List ℕ → End) → ℕ → List ℕ → End
-items_from nested zero s = Stopped 0
-items_from nested (suc k) [] = Stopped 0
+items_from nested zero s = stop 0
+items_from nested (suc k) [] = stop 0
 items_from nested (suc k) (b ∷ s) =
-    cond (eqb b (code ")")) (Behind 1)
-    (cond (eqb b (code " ")) (beyond (item_end nested s) (λ n. items_from nested k (drop n s))) (Stopped 0))
+    cond (eqb b (code ")")) (Ok 1)
+    (cond (eqb b (code " ")) (beyond (item_end nested s) (λ n. items_from nested k (drop n s))) (stop 0))
 
 moved_on : (at n : ℕ) (e : End) → moved (at + 1 + n) e ≡ moved at (moved (suc n) e)
-moved_on at n (Behind m) = ap Behind (omega arith)
-moved_on at n (Stopped m) = ap Stopped (omega arith)
+moved_on at n (Ok m) = ap Ok (omega arith)
+moved_on at n (Err e) = ap stop (omega arith)
 
 turn-from : (at : ℕ) (close blank : Bool) (e : End) (f g : ℕ → End)
     → ((n : ℕ) → f (at + 1 + n) ≡ moved (at + 1 + n) (g n))
-    → cond close (Behind (at + 1)) (cond blank (onward (at + 1) e f) (Stopped at))
-    ≡ moved at (cond close (Behind 1) (cond blank (beyond e g) (Stopped 0)))
+    → cond close (Ok (at + 1)) (cond blank (onward (at + 1) e f) (stop at))
+    ≡ moved at (cond close (Ok 1) (cond blank (beyond e g) (stop 0)))
 turn-from at true blank e f g h = refl
-turn-from at false true (Behind n) f g h = h n ∙ moved_on at n (g n)
-turn-from at false true (Stopped n) f g h = ap Stopped (omega arith)
-turn-from at false false e f g h = ap Stopped (sym (add-zero at))
+turn-from at false true (Ok n) f g h = h n ∙ moved_on at n (g n)
+turn-from at false true (Err e) f g h = ap stop (omega arith)
+turn-from at false false e f g h = ap stop (sym (add-zero at))
 
 -- `items_end` from a place on, as it reads what stands there.
 items-from : (nested : List ℕ → End) (k : ℕ) (s : List ℕ) (at : ℕ)
     → items_end nested k s at ≡ moved at (items_from nested k (drop at s))
 unfolding items_end
-items-from nested zero s at = ap Stopped (sym (add-zero at))
+items-from nested zero s at = ap stop (sym (add-zero at))
 items-from nested (suc k) s at = go (items-from nested k s) (drop at s) refl
   where
     first : get_or (drop at s) 0 0 ≡ get_or s at 0
@@ -94,7 +91,7 @@ items-from nested (suc k) s at = go (items-from nested k s) (drop at s) refl
     go : ((m : ℕ) → items_end nested k s m ≡ moved m (items_from nested k (drop m s))) → (r : List ℕ) → drop at s ≡ r
         → items_end nested (suc k) s at ≡ moved at (items_from nested (suc k) r)
     go f [] e =
-        rw (le-ltb at (length s) (omega (arith, length-drop at s, ap length e))) (ap Stopped (sym (add-zero at)))
+        rw (le-ltb at (length s) (omega (arith, length-drop at s, ap length e))) (ap stop (sym (add-zero at)))
     go f (b ∷ r) e =
         let c : get_or s at 0 ≡ b = sym first ∙ ap (λ (l : List ℕ). get_or l 0 0) e in
         let d : drop (at + 1) s ≡ r = sym (drop-drop 1 at s) ∙ ap (drop 1) e in
@@ -108,17 +105,17 @@ items-from nested (suc k) s at = go (items-from nested k s) (drop at s) refl
 -- A form's word and its items, seen from the bracket before them.
 abbrev pub word_from : (depth : ℕ) → List ℕ → End
 word_from depth s =
-    let n = front Letter s in
-    cond (eqb n 0) (Stopped 1) (moved (suc n) (items_from (form_end depth) (suc (length s)) (drop n s)))
+    let n = front is_letter s in
+    cond (eqb n 0) (stop 1) (moved (suc n) (items_from (form_end depth) (suc (length s)) (drop n s)))
 
 -- `form_end` by its first byte.
 pub form-from : (depth b : ℕ) (s : List ℕ)
-    → form_end (suc depth) (b ∷ s) ≡ cond (eqb b (code "(")) (word_from depth s) (Stopped 0)
+    → form_end (suc depth) (b ∷ s) ≡ cond (eqb b (code "(")) (word_from depth s) (stop 0)
 unfolding form_end open_end is_open
 form-from depth b s = go (eqb b (code "(")) (eqb n 0)
   where
     n : ℕ
-    n = front Letter s
+    n = front is_letter s
 
     nested : List ℕ → End
     nested = form_end depth
@@ -130,8 +127,8 @@ form-from depth b s = go (eqb b (code "(")) (eqb n 0)
     rest = moved (suc n) (items_from nested (suc (length s)) (drop n s))
 
     go : (is_form none : Bool)
-        → onward 0 (cond is_form (cond none (Stopped 1) (Behind (1 + n))) (Stopped 0)) items
-        ≡ cond is_form (cond none (Stopped 1) rest) (Stopped 0)
+        → onward 0 (cond is_form (cond none (stop 1) (Ok (1 + n))) (stop 0)) items
+        ≡ cond is_form (cond none (stop 1) rest) (stop 0)
     go true true = refl
     go true false =
         let e : 0 + (1 + n) ≡ suc n = omega arith in
@@ -142,8 +139,8 @@ form-from depth b s = go (eqb b (code "(")) (eqb n 0)
 
 -- What stands before an end is of a grammar, or is its beginning.
 pub data Fits (P : List ℕ → Type 0) (s : List ℕ) : End → Type 0 where
-  whole : (n : ℕ) → n ≤ length s → P (take n s) → Fits P s (Behind n)
-  begun : (n : ℕ) (t : List ℕ) → n ≤ length s → P (take n s ++ t) → Fits P s (Stopped n)
+  whole : (n : ℕ) → n ≤ length s → P (take n s) → Fits P s (Ok n)
+  begun : (n : ℕ) (t : List ℕ) → n ≤ length s → P (take n s ++ t) → Fits P s (stop n)
 
 -- The same from a byte and n bytes more before.
 fits_after : {P Q : List ℕ → Type 0} {e : End} (b n : ℕ) (s : List ℕ) → n ≤ length s
@@ -155,34 +152,34 @@ fits_after b n s h f (begun m t g p) =
     (rw (take-add (suc n) m (b ∷ s), append_assoc (take n s)) (f (take m (drop n s) ++ t) p))
 
 -- No more bytes than those of a kind in front.
-taken-all : (kind : ByteKind) (n : ℕ) (s : List ℕ) → n ≤ front kind s → all kind (take n s) ≡ true
+taken-all : (kind : ℕ → Bool) (n : ℕ) (s : List ℕ) → n ≤ front kind s → all kind (take n s) ≡ true
 taken-all kind zero s h = refl
 taken-all kind (suc n) [] h = refl
-taken-all kind (suc n) (b ∷ s) h = go (taken-all kind n s) (is_kind kind b) refl
+taken-all kind (suc n) (b ∷ s) h = go (taken-all kind n s) (kind b) refl
   where
-    go : (n ≤ front kind s → all kind (take n s) ≡ true) → (t : Bool) → is_kind kind b ≡ t
+    go : (n ≤ front kind s → all kind (take n s) ≡ true) → (t : Bool) → kind b ≡ t
         → all kind (take (suc n) (b ∷ s)) ≡ true
     go f true e = rw e (f (omega (arith, rw e at h)))
     go f false e = absurd (omega (arith, rw e at h))
 
-word_of : (s : List ℕ) → 0 < length s → all Letter s ≡ true → Word s
+word_of : (s : List ℕ) → 0 < length s → all is_letter s ≡ true → Word s
 word_of [] h e = absurd (omega arith)
 word_of (b ∷ s) h e = letters b s e
 
 -- The letters in front, where there are some.
-word-taken : (s : List ℕ) → eqb (front Letter s) 0 ≡ false → Word (take (front Letter s) s)
+word-taken : (s : List ℕ) → eqb (front is_letter s) 0 ≡ false → Word (take (front is_letter s) s)
 word-taken s e =
-    let n = front Letter s in
-    word_of (take n s) (omega (arith, length-take-le n s (front_le Letter s), eqb-false n 0 e)) (front-taken Letter s)
+    let n = front is_letter s in
+    word_of (take n s) (omega (arith, length-take-le n s (front_le is_letter s), eqb-false n 0 e)) (front-taken is_letter s)
 
 some_word : Word (text "a")
 some_word = letters (code "a") [] refl
 
 module _ (N : List ℕ → Type 0) where
-  some_item : {s : List ℕ} → Fits (Item N) s (Stopped 0)
+  some_item : {s : List ℕ} → Fits (Item N) s (stop 0)
   some_item = begun 0 (text "a") (omega arith) (word (text "a") some_word)
 
-  hex-fits : (s : List ℕ) → 0 < length s → length s % 2 ≡ 0 → all HexDigit s ≡ true → Item N s
+  hex-fits : (s : List ℕ) → 0 < length s → length s % 2 ≡ 0 → all is_hex_digit s ≡ true → Item N s
   hex-fits s h even e =
       let x = (hex_exactly s).0 (hex-run s h even e) in
       subst (Item N) (sym x.0) (bytes (hex_bytes s) x.1)
@@ -192,8 +189,8 @@ module _ (N : List ℕ → Type 0) where
   number_fits zero s h l e = absurd (omega arith)
   number_fits (suc n) [] h l e = absurd (omega arith)
   number_fits (suc n) (b ∷ s) h l e =
-      let g = go (ltb (front Digit (b ∷ s)) (suc n)) (eqb (suc n) 1) (eqb b (code "0")) e in
-      let d = taken-all Digit (suc n) (b ∷ s) (ltb-false _ _ g.0) in
+      let g = go (ltb (front is_digit (b ∷ s)) (suc n)) (eqb (suc n) 1) (eqb b (code "0")) e in
+      let d = taken-all is_digit (suc n) (b ∷ s) (ltb-false _ _ g.0) in
       let x = number-text (take (suc n) (b ∷ s)) (omega arith) d (alone g.1) in
       subst (Item N) (sym x.1) (number x.0)
     where
@@ -212,17 +209,17 @@ module _ (N : List ℕ → Type 0) where
   unfolding plain_end
   plain_fits s =
       split Goal (eqb (get_or s 0 0) (code "-")) (dash s)
-      (λ _. split Goal (leb (front HexDigit s) (front Letter s))
-      (λ _. split Goal (eqb (front Letter s) 0) (λ _. some_item) letters_fit)
+      (λ _. split Goal (leb (front is_hex_digit s) (front is_letter s))
+      (λ _. split Goal (eqb (front is_letter s) 0) (λ _. some_item) letters_fit)
       (λ more. split Goal (eqb (n % 2) 0 || is_number s n)
       (λ e. either _ _ (even_fits (leb-false _ _ more)) (digits_fit (leb-false _ _ more)) e)
       (λ e. odd_fits (neither _ _ e))))
     where
       n : ℕ
-      n = front HexDigit s
+      n = front is_hex_digit s
 
       l : n ≤ length s
-      l = front_le HexDigit s
+      l = front_le is_hex_digit s
 
       m : length (take n s) ≡ n
       m = length-take-le n s l
@@ -230,27 +227,27 @@ module _ (N : List ℕ → Type 0) where
       Goal : End → Type 0
       Goal e = Fits (Item N) s e
 
-      dash : (t : List ℕ) → eqb (get_or t 0 0) (code "-") ≡ true → Fits (Item N) t (Behind 1)
+      dash : (t : List ℕ) → eqb (get_or t 0 0) (code "-") ≡ true → Fits (Item N) t (Ok 1)
       dash [] e = absurd (omega (arith, eqb-true 0 (code "-") e))
       dash (b ∷ t) e = whole 1 (omega arith) (rw (eqb-true b (code "-") e) (bytes [] refl))
 
-      letters_fit : eqb (front Letter s) 0 ≡ false → Goal (Behind (front Letter s))
-      letters_fit e = whole (front Letter s) (front_le Letter s) (word (take (front Letter s) s) (word-taken s e))
+      letters_fit : eqb (front is_letter s) 0 ≡ false → Goal (Ok (front is_letter s))
+      letters_fit e = whole (front is_letter s) (front_le is_letter s) (word (take (front is_letter s) s) (word-taken s e))
 
-      even_fits : front Letter s < n → eqb (n % 2) 0 ≡ true → Goal (Behind n)
+      even_fits : front is_letter s < n → eqb (n % 2) 0 ≡ true → Goal (Ok n)
       even_fits h e =
-          whole n l (hex-fits (take n s) (omega (arith, m)) (rw m (eqb-true _ _ e)) (front-taken HexDigit s))
+          whole n l (hex-fits (take n s) (omega (arith, m)) (rw m (eqb-true _ _ e)) (front-taken is_hex_digit s))
 
-      digits_fit : front Letter s < n → is_number s n ≡ true → Goal (Behind n)
+      digits_fit : front is_letter s < n → is_number s n ≡ true → Goal (Ok n)
       digits_fit h e = whole n l (number_fits n s (omega arith) l e)
 
-      odd_fits : eqb (n % 2) 0 ≡ false → Goal (Stopped n)
+      odd_fits : eqb (n % 2) 0 ≡ false → Goal (stop n)
       odd_fits e =
           let a = length-append (take n s) (text "0") in
           let o = eqb-false (n % 2) 0 e in
           begun n (text "0") l
           (hex-fits (take n s ++ text "0") (omega arith) (omega (arith, m))
-          (rw (all_append HexDigit (take n s) (text "0"), front-taken HexDigit s) refl))
+          (rw (all_append is_hex_digit (take n s) (text "0"), front-taken is_hex_digit s) refl))
 
   module _ (nested : List ℕ → End) (item-fits : (s : List ℕ) → Fits (Item N) s (item_end nested s)) where
     items-fits : (k : ℕ) (s : List ℕ) → Fits (Items N) s (items_from nested k s)
@@ -290,13 +287,13 @@ module _ (depth : ℕ) (nested_fits : (s : List ℕ) → Fits (Item (Form depth)
       rw (form-from depth b s)
       (split Goal (eqb b (code "("))
       (λ e. split Goal (eqb n 0) (λ _. begun 1 (text "a)") (omega arith) (rw (eqb-true b (code "(") e) some_form))
-      (λ some. fits_after b n s (front_le Letter s)
+      (λ some. fits_after b n s (front_le is_letter s)
       (λ t p. rw (eqb-true b (code "(") e) (opened (take n s) t (word-taken s some) p))
       (items-fits (Form depth) (form_end depth) item-fits (suc (length s)) (drop n s))))
       (λ _. begun 0 (text "(a)") (omega arith) some_form))
     where
       n : ℕ
-      n = front Letter s
+      n = front is_letter s
 
       Goal : End → Type 0
       Goal e = Fits (Form (suc depth)) (b ∷ s) e
@@ -314,21 +311,21 @@ form-fits depth = opened-fits depth (nested_fits depth)
 -- ---- what is of the grammar is read
 
 -- No more bytes of a kind than stand before one that is of another.
-front_within : (kind : ByteKind) (s : List ℕ) (c : ℕ) (v : List ℕ) → is_kind kind c ≡ false
+front_within : (kind : ℕ → Bool) (s : List ℕ) (c : ℕ) (v : List ℕ) → kind c ≡ false
     → front kind (s ++ (c ∷ v)) ≤ length s
 front_within kind [] c v h = rw h (omega arith)
-front_within kind (b ∷ s) c v h = go (front_within kind s c v h) (is_kind kind b) refl
+front_within kind (b ∷ s) c v h = go (front_within kind s c v h) (kind b) refl
   where
-    go : front kind (s ++ (c ∷ v)) ≤ length s → (t : Bool) → is_kind kind b ≡ t
+    go : front kind (s ++ (c ∷ v)) ≤ length s → (t : Bool) → kind b ≡ t
         → front kind ((b ∷ s) ++ (c ∷ v)) ≤ length (b ∷ s)
     go f true e = rw e (omega arith)
     go f false e = rw e (omega arith)
 
-first_kind : (kind : ByteKind) (s : List ℕ) → all kind s ≡ true → 0 < length s → is_kind kind (get_or s 0 0) ≡ true
+first_kind : (kind : ℕ → Bool) (s : List ℕ) → all kind s ≡ true → 0 < length s → kind (get_or s 0 0) ≡ true
 first_kind kind [] e h = absurd (omega arith)
-first_kind kind (b ∷ s) e h = ((and-eq-true_iff (is_kind kind b) (all kind s)).0 e).0
+first_kind kind (b ∷ s) e h = ((and-eq-true_iff (kind b) (all kind s)).0 e).0
 
-is-number : (s v : List ℕ) → 0 < length s → front Digit (s ++ v) ≡ length s → ZeroAlone s
+is-number : (s v : List ℕ) → 0 < length s → front is_digit (s ++ v) ≡ length s → ZeroAlone s
     → is_number (s ++ v) (length s) ≡ true
 unfolding is_number
 is-number [] v h e z = absurd (omega arith)
@@ -341,19 +338,19 @@ is-number (b ∷ s) v h e z = rw (e, le-ltb (suc (length s)) (suc (length s)) (o
 
 -- The digits of some bytes.
 hex_digits_lem : (b : ℕ) (bs : List ℕ) → are_bytes (b ∷ bs) ≡ true
-    → (length (hex (b ∷ bs)) % 2 ≡ 0) × (all HexDigit (hex (b ∷ bs)) ≡ true)
+    → (length (hex (b ∷ bs)) % 2 ≡ 0) × (all is_hex_digit (hex (b ∷ bs)) ≡ true)
 unfolding is_hex
 hex_digits_lem b bs h =
     let s = hex (b ∷ bs) in
     let n = length s in
     let x = hex-is (b ∷ bs) h in
     let g = rw (ne_eqb n 0 (omega arith), ne_eqb n 1 (omega arith)) at x in
-    let f = (and-eq-true_iff (eqb (n % 2) 0) (eqb (front HexDigit s) n)).0 g in
-    (eqb-true (n % 2) 0 f.0, front-whole HexDigit s (eqb-true (front HexDigit s) n f.1))
+    let f = (and-eq-true_iff (eqb (n % 2) 0) (eqb (front is_hex_digit s) n)).0 g in
+    (eqb-true (n % 2) 0 f.0, front-whole is_hex_digit s (eqb-true (front is_hex_digit s) n f.1))
 
 -- What follows an item begins with no letter and no digit.
 data Edge : List ℕ → Type 0 where
-  edge : (c : ℕ) (v : List ℕ) → is_kind Letter c ≡ false → is_kind Digit c ≡ false → is_kind HexDigit c ≡ false
+  edge : (c : ℕ) (v : List ℕ) → is_letter c ≡ false → is_digit c ≡ false → is_hex_digit c ≡ false
       → Edge (c ∷ v)
 
 items_edge : {N : List ℕ → Type 0} {s : List ℕ} → Items N s → (v : List ℕ) → Edge (s ++ v)
@@ -372,62 +369,62 @@ module _ (nested : List ℕ → End) where
     not_dash : eqb (get_or s 0 0) (code "-") ≡ false
     not_dash = ne_eqb (get_or s 0 0) (code "-") (omega arith)
 
-    letters-read : front Letter (s ++ v) ≡ length s → front HexDigit (s ++ v) ≤ length s
-        → item_end nested (s ++ v) ≡ Behind (length s)
+    letters-read : front is_letter (s ++ v) ≡ length s → front is_hex_digit (s ++ v) ≤ length s
+        → item_end nested (s ++ v) ≡ Ok (length s)
     unfolding plain_end is_open
     letters-read e h =
         rw (first-same, not_open, not_dash, e, le-leb _ _ h, ne_eqb (length s) 0 (omega arith)) refl
 
-    digits_read : front HexDigit (s ++ v) ≡ length s → front Letter (s ++ v) ≤ length s
-        → (eqb (length s % 2) 0 || is_number (s ++ v) (length s)) ≡ true → item_end nested (s ++ v) ≡ Behind (length s)
+    digits_read : front is_hex_digit (s ++ v) ≡ length s → front is_letter (s ++ v) ≤ length s
+        → (eqb (length s % 2) 0 || is_number (s ++ v) (length s)) ≡ true → item_end nested (s ++ v) ≡ Ok (length s)
     unfolding plain_end is_open
-    digits_read e h q = go (leb (length s) (front Letter (s ++ v))) refl
+    digits_read e h q = go (leb (length s) (front is_letter (s ++ v))) refl
       where
-        go : (b : Bool) → leb (length s) (front Letter (s ++ v)) ≡ b → item_end nested (s ++ v) ≡ Behind (length s)
-        go true g = letters-read (omega (arith, leb-true (length s) (front Letter (s ++ v)) g)) (omega arith)
+        go : (b : Bool) → leb (length s) (front is_letter (s ++ v)) ≡ b → item_end nested (s ++ v) ≡ Ok (length s)
+        go true g = letters-read (omega (arith, leb-true (length s) (front is_letter (s ++ v)) g)) (omega arith)
         go false g = rw (first-same, not_open, not_dash, e, g, q) refl
 
-  word_reads : {s : List ℕ} {v : List ℕ} → Word s → Edge v → item_end nested (s ++ v) ≡ Behind (length s)
+  word_reads : {s : List ℕ} {v : List ℕ} → Word s → Edge v → item_end nested (s ++ v) ≡ Ok (length s)
   word_reads (letters b s e) (edge c v l d h) =
-      let g = first_kind Letter (b ∷ s) e (omega arith) in
-      letters-read (b ∷ s) (c ∷ v) (omega arith) (omega (arith, letter_range b g)) (front-run Letter (b ∷ s) c v e l)
-      (front_within HexDigit (b ∷ s) c v h)
+      let g = first_kind is_letter (b ∷ s) e (omega arith) in
+      letters-read (b ∷ s) (c ∷ v) (omega arith) (omega (arith, letter_range b g)) (front-run is_letter (b ∷ s) c v e l)
+      (front_within is_hex_digit (b ∷ s) c v h)
 
-  number_reads : (n : ℕ) {v : List ℕ} → Edge v → item_end nested (decimal n ++ v) ≡ Behind (length (decimal n))
+  number_reads : (n : ℕ) {v : List ℕ} → Edge v → item_end nested (decimal n ++ v) ≡ Ok (length (decimal n))
   number_reads n (edge c v l d h) =
       let s = decimal n in
       let some = decimal_some n in
       let e = decimal_digits n in
-      let z = is-number s (c ∷ v) some (front-run Digit s c v e d) (decimal_zero_alone n) in
-      digits_read s (c ∷ v) some (digit_range (get_or s 0 0) (first_kind Digit s e some)).0
-      (front-run HexDigit s c v (all_digit_hex s e) h)
-      (front_within Letter s c v l)
+      let z = is-number s (c ∷ v) some (front-run is_digit s c v e d) (decimal_zero_alone n) in
+      digits_read s (c ∷ v) some (digit_range (get_or s 0 0) (first_kind is_digit s e some)).0
+      (front-run is_hex_digit s c v (all_digit_hex s e) h)
+      (front_within is_letter s c v l)
       (rw z (or-true (eqb (length s % 2) 0)))
 
   bytes_read : (bs : List ℕ) {v : List ℕ} → are_bytes bs ≡ true → Edge v
-      → item_end nested (hex bs ++ v) ≡ Behind (length (hex bs))
+      → item_end nested (hex bs ++ v) ≡ Ok (length (hex bs))
   unfolding plain_end is_open
   bytes_read [] p (edge c v l d h) = refl
   bytes_read (b ∷ bs) p (edge c v l d h) =
       let s = hex (b ∷ bs) in
       let r = hex_digits_lem b bs p in
-      digits_read s (c ∷ v) (omega arith) (hex_within (get_or s 0 0) (first_kind HexDigit s r.1 (omega arith))).0
-      (front-run HexDigit s c v r.1 h)
-      (front_within Letter s c v l)
+      digits_read s (c ∷ v) (omega arith) (hex_within (get_or s 0 0) (first_kind is_hex_digit s r.1 (omega arith))).0
+      (front-run is_hex_digit s c v r.1 h)
+      (front_within is_letter s c v l)
       (rw (eq-eqb (length s % 2) 0 r.0) refl)
 
   module _
       (N : List ℕ → Type 0)
-      (nested-reads : (s : List ℕ) → N s → (v : List ℕ) → nested (s ++ v) ≡ Behind (length s))
+      (nested-reads : (s : List ℕ) → N s → (v : List ℕ) → nested (s ++ v) ≡ Ok (length s))
       (nested-opens : (s : List ℕ) → N s → (v : List ℕ) → is_open (s ++ v) ≡ true) where
-    item_reads : {s v : List ℕ} → Item N s → Edge v → item_end nested (s ++ v) ≡ Behind (length s)
+    item_reads : {s v : List ℕ} → Item N s → Edge v → item_end nested (s ++ v) ≡ Ok (length s)
     item_reads (word s w) h = word_reads w h
     item_reads (number n) h = number_reads n h
     item_reads (bytes bs p) h = bytes_read bs p h
     item_reads {v} (form s p) h = rw (nested-opens s p v) (nested-reads s p v)
 
     items_reads : {s : List ℕ} → Items N s → (v : List ℕ) (k : ℕ) → length s ≤ k
-        → items_from nested k (s ++ v) ≡ Behind (length s)
+        → items_from nested k (s ++ v) ≡ Ok (length s)
     items_reads close v zero h = absurd (omega arith)
     items_reads close v (suc k) h = refl
     items_reads (item s more i is) v zero h = absurd (omega arith)
@@ -439,10 +436,10 @@ module _ (nested : List ℕ → End) where
           drop-append_seam s (more ++ v),
           items_reads is v k (omega arith),
         )
-        (ap Behind (omega arith))
+        (ap Ok (omega arith))
 
-word-front : {s v : List ℕ} → Word s → Edge v → (0 < length s) × (front Letter (s ++ v) ≡ length s)
-word-front (letters b s e) (edge c v l d h) = (omega arith, front-run Letter (b ∷ s) c v e l)
+word-front : {s v : List ℕ} → Word s → Edge v → (0 < length s) × (front is_letter (s ++ v) ≡ length s)
+word-front (letters b s e) (edge c v l d h) = (omega arith, front-run is_letter (b ∷ s) c v e l)
 
 form-opens : (depth : ℕ) (s : List ℕ) → Form depth s → (v : List ℕ) → is_open (s ++ v) ≡ true
 unfolding is_open
@@ -450,7 +447,7 @@ form-opens zero s f v = elim f [ ]
 form-opens (suc depth) s (opened w more x is) v = refl
 
 -- A form is read, whatever follows it.
-pub form_reads : (depth : ℕ) (s : List ℕ) → Form depth s → (v : List ℕ) → form_end depth (s ++ v) ≡ Behind (length s)
+pub form_reads : (depth : ℕ) (s : List ℕ) → Form depth s → (v : List ℕ) → form_end depth (s ++ v) ≡ Ok (length s)
 form_reads zero s f v = elim f [ ]
 form_reads (suc depth) s (opened w more x is) v =
     let h = word-front x (items_edge is v) in
@@ -464,9 +461,9 @@ form_reads (suc depth) s (opened w more x is) v =
       drop-append_seam w (more ++ v),
       items_reads (form_end depth) (Form depth) (form_reads depth) (form-opens depth) is v k l,
     )
-    (ap Behind (omega (arith, length-append w more)))
+    (ap Ok (omega (arith, length-append w more)))
 
-whole-fits : {P : List ℕ → Type 0} {s : List ℕ} {e : End} (n : ℕ) → Fits P s e → e ≡ Behind n
+whole-fits : {P : List ℕ → Type 0} {s : List ℕ} {e : End} (n : ℕ) → Fits P s e → e ≡ Ok n
     → (n ≤ length s) × P (take n s)
 whole-fits {P} {s} n (whole m h p) q =
     let r : m ≡ n = cc in
@@ -475,21 +472,21 @@ whole-fits n (begun m t h p) q = let z : ◌≡◌ {A = ℕ} 0 1 = cc in absurd 
 
 -- The reader ends behind n bytes exactly where they are a form.
 pub form_exactly : (depth : ℕ) (s : List ℕ) (n : ℕ)
-    → (form_end depth s ≡ Behind n) ↔ ((n ≤ length s) × Form depth (take n s))
+    → (form_end depth s ≡ Ok n) ↔ ((n ≤ length s) × Form depth (take n s))
 unfolding form_end
 form_exactly depth s n = (to depth, from)
   where
-    to : (d : ℕ) → form_end d s ≡ Behind n → (n ≤ length s) × Form d (take n s)
+    to : (d : ℕ) → form_end d s ≡ Ok n → (n ≤ length s) × Form d (take n s)
     to zero q = let z : ◌≡◌ {A = ℕ} 0 1 = cc in absurd (omega arith)
     to (suc d) q = whole-fits n (form-fits d s) q
 
-    from : (n ≤ length s) × Form depth (take n s) → form_end depth s ≡ Behind n
+    from : (n ≤ length s) × Form depth (take n s) → form_end depth s ≡ Ok n
     from x =
         let r = form_reads depth (take n s) x.1 (drop n s) in
         rw (take-append-drop n s, length-take-le n s x.0) at r
 
 -- All bytes are a form exactly where the reader ends behind the last.
-pub form-whole : (depth : ℕ) (s : List ℕ) → (form_end depth s ≡ Behind (length s)) ↔ Form depth s
+pub form-whole : (depth : ℕ) (s : List ℕ) → (form_end depth s ≡ Ok (length s)) ↔ Form depth s
 form-whole depth s =
     let x = form_exactly depth s (length s) in
     (λ q. rw (take-length s) at (x.0 q).1, λ f. x.1 (omega arith, rw (take-length s) f))

@@ -1,56 +1,23 @@
 -- What the proofs of the functions share: a step of each definition, and that an end lies within the bytes.
-use mathlib.Core.Path.{◌≡◌, refl, sym, ap₂, ◌∙◌}
-use mathlib.Core.Bool.{Bool, true, false, cond, ◌||◌, false≢true}
+use mathlib.Core.Path.{◌≡◌, refl, ap₂, ◌∙◌}
+use mathlib.Core.Bool.{Bool, true, false, cond, ◌||◌}
 use mathlib.Core.List.{List, [], ◌∷◌, ◌++◌}
-use mathlib.Core.Logic.{⊎_elim}
-use Prim.Native.Nat.{ℕ, zero, suc, ◌+◌, ◌-◌, ◌*◌, ◌/◌, ◌%◌, ◌≤◌, ◌<◌, min}
+use Prim.Native.Nat.{ℕ, zero, suc, ◌+◌, ◌-◌, ◌*◌, ◌/◌, ◌%◌, ◌^◌, ◌≤◌, ◌<◌, min}
 use Prim.Native.Char.{code}
 use native.Mathlib.Nat.{zero-add}
 use native.Mathlib.Numerals.{add-one}
 use native.Mathlib.Omega.{arith}
-use borrow.Author.Tests.{ltb-true, ltb-false, eqb-true, lt-ltb, le-ltb, le-leb, ne_eqb}
+use borrow.Author.Tests.{ltb-true, ltb-false, eqb-true, lt-ltb, le-ltb, ne_eqb}
 use lib.Dec.{ltb, leb, eqb}
 use lib.ListN.{length, get_or, take, drop, set, length-drop, drop_of_length-le}
 use lib.Seq.{drop-cons, take_all, paste-suc}
-use Rattle.forms.specs.declared.bytes.ByteKind.{ByteKind}
-use Rattle.forms.specs.declared.bytes.ByteKind.TheVariants.{Letter, Digit, HexDigit}
-use Rattle.forms.specs.declared.decimal.Number.TheVariants.{Is, Not}
-use Rattle.forms.specs.declared.form.End.{End}
-use Rattle.forms.specs.declared.form.End.TheVariants.{Behind, Stopped}
-use Rattle.forms.specs.Bytes.{is_kind, front}
-use Rattle.forms.specs.Form.{is_number, plain_end, is_open, open_end, onward, items_end, form_end}
+use Rattle.std.specs.Prelude.{Some, None, Ok}
+use Rattle.forms.specs.Bytes.{front, is_letter, is_digit, is_hex_digit}
+use Rattle.forms.specs.Form.{End, stop, is_number, plain_end, is_open, open_end, onward, items_end, form_end}
 use Rattle.forms.specs.Decimal.{with_digit, decimal_from}
 use Rattle.forms.specs.Hex.{digit_value, hex_bytes, byte_at, decoded_out}
-use Rattle.forms.proofs.BytesLaws.{front_le, hex_range}
+use Rattle.forms.proofs.BytesLaws.{front_le}
 use Rattle.forms.proofs.HexLaws.{hex-length}
-
--- How many bytes of a kind stand in front of the bytes from n on.
-pub front-more : (kind : ByteKind) (s : List ℕ) (n : ℕ) → n < length s → is_kind kind (get_or s n 0) ≡ true
-    → front kind (drop n s) ≡ suc (front kind (drop (n + 1) s))
-front-more kind s n h e = rw (add-one n, drop-cons s n 0 h, front, e) refl
-
-pub front_stops : (kind : ByteKind) (s : List ℕ) (n : ℕ) → n < length s → is_kind kind (get_or s n 0) ≡ false
-    → front kind (drop n s) ≡ 0
-front_stops kind s n h e = rw (drop-cons s n 0 h, front, e) refl
-
--- The hexadecimal digits that are letters; what each digit says.
-pub letter_digit : (b : ℕ) → is_kind Digit b ≡ false → is_kind HexDigit b ≡ true → code "a" ≤ b
-letter_digit b d e = ⊎_elim (λ r. absurd (false≢true (sym d ∙ is_digit r.0 r.1))) (λ r. r.0) (hex_range b e)
-  where
-    is_digit : code "0" ≤ b → b ≤ code "9" → is_kind Digit b ≡ true
-    is_digit low high = rw (le-leb (code "0") b low, le-leb b (code "9") high) refl
-
-pub value_of_digit : (b : ℕ) → is_kind Digit b ≡ true → digit_value b ≡ b - 48
-unfolding digit_value
-value_of_digit b d = rw d refl
-
-pub value_of_letter : (b : ℕ) → is_kind Digit b ≡ false → is_kind HexDigit b ≡ true → digit_value b ≡ b - 97 + 10
-unfolding digit_value
-value_of_letter b d e = rw (d, rw d at e) refl
-
-pub value_of_other : (b : ℕ) → is_kind Digit b ≡ false → is_kind HexDigit b ≡ false → digit_value b ≡ 0
-unfolding digit_value
-value_of_other b d e = rw (d, rw d at e) refl
 
 -- Each pair of digits is a byte.
 hex_bytes_at : (s : List ℕ) (i : ℕ) → i * 2 + 1 < length s → get_or (hex_bytes s) i 0 ≡ byte_at s i
@@ -91,24 +58,34 @@ decoded_end s out n h = cases (ltb (length out) (length s / 2)) refl
         rw (m, take_all (length s / 2) (hex_bytes s) (omega (arith, l)), take_all (length out) (hex_bytes s) (omega (arith, l, f)))
         refl
 
+-- A number with a byte behind it that is no digit, and with a digit.
+pub digit_refused : (n b : ℕ) → is_digit b ≡ false → with_digit n b ≡ None
+unfolding with_digit
+digit_refused n b e = rw e refl
+
+pub digit_over : (n b : ℕ) → is_digit b ≡ true → 2 ^ 64 ≤ n * 10 + (b - code "0") → with_digit n b ≡ None
+unfolding with_digit
+digit_over n b e h = rw (e, le-ltb _ _ h) refl
+
+pub digit_added : (n b m : ℕ) → is_digit b ≡ true → m ≡ n * 10 + (b - code "0") → m < 2 ^ 64
+    → with_digit n b ≡ Some m
+unfolding with_digit
+digit_added n b m e q h = rw (e, ← q, lt-ltb _ _ h) refl
+
 -- Decimal digits from the i-th on, behind those of n.
-pub decimal-more : (s : List ℕ) (n m i : ℕ) → i < length s → with_digit n (get_or s i 0) ≡ Is m
+pub decimal-more : (s : List ℕ) (n m i : ℕ) → i < length s → with_digit n (get_or s i 0) ≡ Some m
     → decimal_from n (drop i s) ≡ decimal_from m (drop (i + 1) s)
 unfolding decimal_from
 decimal-more s n m i h e = rw (add-one i, drop-cons s i 0 h, decimal_from, e) refl
 
-pub decimal_stops : (s : List ℕ) (n i : ℕ) → i < length s → with_digit n (get_or s i 0) ≡ Not
-    → decimal_from n (drop i s) ≡ Not
+pub decimal_stops : (s : List ℕ) (n i : ℕ) → i < length s → with_digit n (get_or s i 0) ≡ None
+    → decimal_from n (drop i s) ≡ None
 unfolding decimal_from
 decimal_stops s n i h e = rw (drop-cons s i 0 h, decimal_from, e) refl
 
 -- A part that goes to the end of the bytes.
 pub from_place : (s : List ℕ) (at : ℕ) → take (length s - at) (drop at s) ≡ drop at s
 from_place s at = take_all (length s - at) (drop at s) (omega (arith, length-drop at s))
-
-pub first_byte : (s : List ℕ) (d e : ℕ) → 0 < length s → get_or s 0 d ≡ get_or s 0 e
-first_byte [] d e h = absurd (omega arith)
-first_byte (b ∷ s) d e h = refl
 
 -- Where a byte that is not 0 stands in front, there is one.
 pub some_byte : (s : List ℕ) (b : ℕ) → 0 < b → eqb (get_or s 0 0) b ≡ true → 0 < length s
@@ -117,8 +94,8 @@ some_byte (a ∷ s) b h e = omega arith
 
 -- An end within l bytes. Every end lies within the bytes that were read (`form_within`).
 data Within (l : ℕ) : End → Type 0 where
-  behind : (n : ℕ) → n ≤ l → Within l (Behind n)
-  stopped : (n : ℕ) → n ≤ l → Within l (Stopped n)
+  behind : (n : ℕ) → n ≤ l → Within l (Ok n)
+  stopped : (n : ℕ) → n ≤ l → Within l (stop n)
 
 either : {l : ℕ} (t : Bool) {p q : End} → (t ≡ true → Within l p) → (t ≡ false → Within l q) → Within l (cond t p q)
 either true f g = f refl
@@ -127,18 +104,18 @@ either false f g = g refl
 plain_within : (s : List ℕ) → Within (length s) (plain_end s)
 unfolding plain_end
 plain_within s =
-    let letters = front_le Letter s in
-    let digits = front_le HexDigit s in
+    let letters = front_le is_letter s in
+    let digits = front_le is_hex_digit s in
     either (eqb (get_or s 0 0) 45) (λ e. behind 1 (some_byte s 45 (omega arith) e))
-    (λ _. either (leb (front HexDigit s) (front Letter s))
-    (λ _. either (eqb (front Letter s) 0) (λ _. stopped 0 (omega arith)) (λ _. behind _ letters))
-    (λ _. either (eqb (front HexDigit s % 2) 0 || is_number s (front HexDigit s)) (λ _. behind _ digits) (λ _. stopped _ digits)))
+    (λ _. either (leb (front is_hex_digit s) (front is_letter s))
+    (λ _. either (eqb (front is_letter s) 0) (λ _. stopped 0 (omega arith)) (λ _. behind _ letters))
+    (λ _. either (eqb (front is_hex_digit s % 2) 0 || is_number s (front is_hex_digit s)) (λ _. behind _ digits) (λ _. stopped _ digits)))
 
 open_within : (s : List ℕ) → Within (length s) (open_end s)
 unfolding open_end is_open
 open_within s =
-    let n = front Letter (drop 1 s) in
-    let word = front_le Letter (drop 1 s) in
+    let n = front is_letter (drop 1 s) in
+    let word = front_le is_letter (drop 1 s) in
     either (is_open s)
     (λ e.
     let some = some_byte s 40 (omega arith) e in
@@ -178,10 +155,10 @@ form_within (suc depth) s =
     next_within 0 (open_within s) (omega arith)
     (λ at h. items_within (λ rest. form_end depth rest) (form_within depth) (length s) s at h)
 
-ends_behind : {n l : ℕ} → Within l (Behind n) → n ≤ l
+ends_behind : {n l : ℕ} → Within l (Ok n) → n ≤ l
 ends_behind (behind n h) = h
 
-stops_at : {n l : ℕ} → Within l (Stopped n) → n ≤ l
+stops_at : {n l : ℕ} → Within l (stop n) → n ≤ l
 stops_at (stopped n h) = h
 
 -- A form that is not 0 deep.
@@ -191,7 +168,7 @@ unfolding form_end
 form-is zero s h = absurd (h refl)
 form-is (suc d) s h = let e : suc d - 1 ≡ d = omega arith in rw e refl
 
-pub not_opened : (depth n : ℕ) (s : List ℕ) → (depth ≡ 0 → ⊥) → open_end s ≡ Stopped n → form_end depth s ≡ Stopped n
+pub not_opened : (depth n : ℕ) (s : List ℕ) → (depth ≡ 0 → ⊥) → open_end s ≡ stop n → form_end depth s ≡ stop n
 not_opened depth n s h e = rw (form-is depth s h, e, zero-add n) refl
 
 -- Within a form: its bracket and word are read, and the items before `at`. `whole` is the form's end, `depth` how deep
@@ -202,7 +179,7 @@ pub record Reading (depth : ℕ) (s : List ℕ) (at : ℕ) (whole : End) : Type 
   pub inside : at ≤ length s
   pub rest : whole ≡ items_end (λ r. form_end depth r) bound s at
 
-pub opened : (depth n : ℕ) (s : List ℕ) → (depth ≡ 0 → ⊥) → open_end s ≡ Behind n
+pub opened : (depth n : ℕ) (s : List ℕ) → (depth ≡ 0 → ⊥) → open_end s ≡ Ok n
     → Reading (depth - 1) s n (form_end depth s)
 opened depth n s h e =
     record {
@@ -213,11 +190,11 @@ opened depth n s h e =
     }
 
 pub ended : (depth : ℕ) (s : List ℕ) (at : ℕ) (whole : End) → Reading depth s at whole → length s ≤ at
-    → whole ≡ Stopped at
+    → whole ≡ stop at
 unfolding items_end
 ended depth s at whole r h = r.rest ∙ cases r.bound
   where
-    cases : (k : ℕ) → items_end (λ x. form_end depth x) k s at ≡ Stopped at
+    cases : (k : ℕ) → items_end (λ x. form_end depth x) k s at ≡ stop at
     cases zero = refl
     cases (suc k) = rw (le-ltb at (length s) h) refl
 
@@ -235,10 +212,10 @@ plain_item depth s e = rw e refl
 module _ (depth : ℕ) (s : List ℕ) (at : ℕ) (whole : End) (r : Reading depth s at whole) (more : at < length s) where
   abbrev step : ℕ → End
   step k =
-      cond (eqb (get_or s at 0) 41) (Behind (at + 1))
+      cond (eqb (get_or s at 0) 41) (Ok (at + 1))
       (cond (eqb (get_or s at 0) 32)
       (onward (at + 1) (item_end depth (drop (at + 1) s)) (λ next. items_end (λ x. form_end depth x) k s next))
-      (Stopped at))
+      (stop at))
 
   stepped : (k : ℕ) × (length s ≤ at + suc k) × (whole ≡ step k)
   unfolding items_end
@@ -249,16 +226,16 @@ module _ (depth : ℕ) (s : List ℕ) (at : ℕ) (whole : End) (r : Reading dept
       cases zero h e = absurd (omega arith)
       cases (suc k) h e = (k, h, e ∙ rw (lt-ltb at (length s) more) refl)
 
-  pub closed : get_or s at 0 ≡ 41 → whole ≡ Behind (at + 1)
+  pub closed : get_or s at 0 ≡ 41 → whole ≡ Ok (at + 1)
   closed e = stepped.2 ∙ rw e refl
 
-  pub no_item : (get_or s at 0 ≡ 41 → ⊥) → (get_or s at 0 ≡ 32 → ⊥) → whole ≡ Stopped at
+  pub no_item : (get_or s at 0 ≡ 41 → ⊥) → (get_or s at 0 ≡ 32 → ⊥) → whole ≡ stop at
   no_item e f = stepped.2 ∙ rw (ne_eqb _ 41 e, ne_eqb _ 32 f) refl
 
   item_inside : Within (length (drop (at + 1) s)) (item_end depth (drop (at + 1) s))
   item_inside = item_within (λ x. form_end depth x) (form_within depth) (drop (at + 1) s)
 
-  pub item-read : (n : ℕ) → get_or s at 0 ≡ 32 → item_end depth (drop (at + 1) s) ≡ Behind n
+  pub item-read : (n : ℕ) → get_or s at 0 ≡ 32 → item_end depth (drop (at + 1) s) ≡ Ok n
       → Reading depth s (at + 1 + n) whole
   item-read n e f =
       record {
@@ -268,6 +245,6 @@ module _ (depth : ℕ) (s : List ℕ) (at : ℕ) (whole : End) (r : Reading dept
         rest = stepped.2 ∙ rw (e, f) refl;
       }
 
-  pub item_stops : (n : ℕ) → get_or s at 0 ≡ 32 → item_end depth (drop (at + 1) s) ≡ Stopped n
-      → (whole ≡ Stopped (at + 1 + n)) × (at + 1 + n ≤ length s)
+  pub item_stops : (n : ℕ) → get_or s at 0 ≡ 32 → item_end depth (drop (at + 1) s) ≡ stop n
+      → (whole ≡ stop (at + 1 + n)) × (at + 1 + n ≤ length s)
   item_stops n e f = (stepped.2 ∙ rw (e, f) refl, omega (arith, length-drop (at + 1) s, stops_at (rw f at item_inside)))

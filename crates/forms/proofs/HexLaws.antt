@@ -9,8 +9,7 @@ use native.Mathlib.Omega.{arith}
 use borrow.Author.Tests.{ltb-true, ltb-false, lt-ltb, le-ltb, le-leb, lt-leb, eqb-true, eq-eqb, ne_eqb}
 use lib.Dec.{ltb, eqb}
 use lib.ListN.{length}
-use Rattle.forms.specs.declared.bytes.ByteKind.TheVariants.{Digit, HexDigit, Item, Line}
-use Rattle.forms.specs.Bytes.{is_kind, all, front}
+use Rattle.forms.specs.Bytes.{all, front, is_digit, is_hex_digit, is_item, is_line}
 use Rattle.forms.specs.Hex.{hex_digit, hex_digits, hex, are_bytes, is_hex, digit_value, hex_bytes}
 use Rattle.forms.proofs.BytesLaws.{all_cons, front-all, front-whole, digit_range, HexRange, hex_range, hex_within, all_hex_item, all_hex_line}
 
@@ -24,17 +23,17 @@ unfolding digit_value
 high_value b l h =
     rw (lt-leb b (code "9") (omega arith), and-false, le-leb (code "a") b l, le-leb b (code "f") h) refl
 
-low_is : (b : ℕ) → code "0" ≤ b → b ≤ code "9" → is_kind HexDigit b ≡ true
+low_is : (b : ℕ) → code "0" ≤ b → b ≤ code "9" → is_hex_digit b ≡ true
 low_is b l h = rw (le-leb (code "0") b l, le-leb b (code "9") h) refl
 
-high_is : (b : ℕ) → code "a" ≤ b → b ≤ code "f" → is_kind HexDigit b ≡ true
+high_is : (b : ℕ) → code "a" ≤ b → b ≤ code "f" → is_hex_digit b ≡ true
 high_is b l h = rw (lt-leb b (code "9") (omega arith), and-false, le-leb (code "a") b l, le-leb b (code "f") h) refl
 
 -- A digit of a number below 16 is one, and says that number.
-digit_value_lem : (d : ℕ) → d < 16 → (is_kind HexDigit (hex_digit d) ≡ true) × (digit_value (hex_digit d) ≡ d)
+digit_value_lem : (d : ℕ) → d < 16 → (is_hex_digit (hex_digit d) ≡ true) × (digit_value (hex_digit d) ≡ d)
 digit_value_lem d h = go (ltb d 10) refl
   where
-    go : (t : Bool) → ltb d 10 ≡ t → (is_kind HexDigit (hex_digit d) ≡ true) × (digit_value (hex_digit d) ≡ d)
+    go : (t : Bool) → ltb d 10 ≡ t → (is_hex_digit (hex_digit d) ≡ true) × (digit_value (hex_digit d) ≡ d)
     go true e =
         let l = ltb-true d 10 e in
         let b = code "0" + d in
@@ -46,7 +45,7 @@ digit_value_lem d h = go (ltb d 10) refl
         let g : b ≤ code "f" = omega arith in
         rw e (high_is b (omega arith) g, high_value b (omega arith) g ∙ omega arith)
 
-digit-back : (b : ℕ) → is_kind HexDigit b ≡ true → hex_digit (digit_value b) ≡ b
+digit-back : (b : ℕ) → is_hex_digit b ≡ true → hex_digit (digit_value b) ≡ b
 digit-back b h = go (hex_range b h)
   where
     go : HexRange b → hex_digit (digit_value b) ≡ b
@@ -55,9 +54,9 @@ digit-back b h = go (hex_range b h)
 
 pub digit_value_lt : (b : ℕ) → digit_value b < 16
 unfolding digit_value
-digit_value_lt b = go (is_kind Digit b) (is_kind HexDigit b) refl refl
+digit_value_lt b = go (is_digit b) (is_hex_digit b) refl refl
   where
-    go : (t u : Bool) → is_kind Digit b ≡ t → is_kind HexDigit b ≡ u → digit_value b < 16
+    go : (t u : Bool) → is_digit b ≡ t → is_hex_digit b ≡ u → digit_value b < 16
     go true u d e = rw d (omega (arith, digit_range b d))
     go false true d e = rw (e, d) (omega (arith, hex_within b e))
     go false false d e = rw (e, d) (omega arith)
@@ -81,7 +80,7 @@ pub bytes_cons : (b : ℕ) (bs : List ℕ) → are_bytes (b ∷ bs) ≡ true →
 bytes_cons b bs h = let g = (and-eq-true_iff (ltb b 256) (are_bytes bs)).0 h in (ltb-true b 256 g.0, g.1)
 
 -- The digits of bytes, and the bytes of digits.
-pub hex_digits-all : (bs : List ℕ) → are_bytes bs ≡ true → all HexDigit (hex_digits bs) ≡ true
+pub hex_digits-all : (bs : List ℕ) → are_bytes bs ≡ true → all is_hex_digit (hex_digits bs) ≡ true
 hex_digits-all [] h = refl
 hex_digits-all (b ∷ bs) h =
     let g = bytes_cons b bs h in
@@ -95,23 +94,23 @@ digits_bytes (b ∷ bs) h =
     let r = digits_bytes bs g.1 in
     rw ((digit_value_lem (b / 16) (omega arith)).1, (digit_value_lem (b % 16) (omega arith)).1) (λ i. e i ∷ r i)
 
-bytes_digits : (s : List ℕ) → length s % 2 ≡ 0 → all HexDigit s ≡ true → hex_digits (hex_bytes s) ≡ s
+bytes_digits : (s : List ℕ) → length s % 2 ≡ 0 → all is_hex_digit s ≡ true → hex_digits (hex_bytes s) ≡ s
 bytes_digits [] e h = refl
 bytes_digits (a ∷ []) e h = absurd (omega arith)
 bytes_digits (a ∷ (b ∷ s)) e h =
-    let f = all_cons HexDigit a (b ∷ s) h in
-    let g = all_cons HexDigit b s f.1 in
+    let f = all_cons is_hex_digit a (b ∷ s) h in
+    let g = all_cons is_hex_digit b s f.1 in
     let n = digit_value a * 16 + digit_value b in
     let q : n / 16 ≡ digit_value a = omega (arith, digit_value_lt b) in
     let m : n % 16 ≡ digit_value b = omega (arith, digit_value_lt b) in
     let r = bytes_digits s (omega arith) g.1 in
     λ i. (ap hex_digit q ∙ digit-back a f.0) i ∷ ((ap hex_digit m ∙ digit-back b g.0) i ∷ r i)
 
-pub hex-run : (s : List ℕ) → 0 < length s → length s % 2 ≡ 0 → all HexDigit s ≡ true → is_hex s ≡ true
+pub hex-run : (s : List ℕ) → 0 < length s → length s % 2 ≡ 0 → all is_hex_digit s ≡ true → is_hex s ≡ true
 unfolding is_hex
 hex-run s l e h =
     rw (
-      front-all HexDigit s h,
+      front-all is_hex_digit s h,
       ne_eqb (length s) 0 (omega arith),
       ne_eqb (length s) 1 (omega arith),
       eq-eqb (length s % 2) 0 e,
@@ -137,16 +136,16 @@ exactly (a ∷ (b ∷ s)) h =
     let t = a ∷ (b ∷ s) in
     let n = length t in
     let g = rw (ne_eqb n 0 (omega arith), ne_eqb n 1 (omega arith)) at h in
-    let f = (and-eq-true_iff (eqb (n % 2) 0) (eqb (front HexDigit t) n)).0 g in
-    sym (bytes_digits t (eqb-true (n % 2) 0 f.0) (front-whole HexDigit t (eqb-true (front HexDigit t) n f.1)))
+    let f = (and-eq-true_iff (eqb (n % 2) 0) (eqb (front is_hex_digit t) n)).0 g in
+    sym (bytes_digits t (eqb-true (n % 2) 0 f.0) (front-whole is_hex_digit t (eqb-true (front is_hex_digit t) n f.1)))
 
 pub hex_exactly : (s : List ℕ) → (is_hex s ≡ true) ↔ ((s ≡ hex (hex_bytes s)) × (are_bytes (hex_bytes s) ≡ true))
 hex_exactly s = (λ h. (exactly s h, hex-are_bytes s), λ p. ap is_hex p.0 ∙ hex-is (hex_bytes s) p.1)
 
-pub hex-item : (bs : List ℕ) → are_bytes bs ≡ true → all Item (hex bs) ≡ true
+pub hex-item : (bs : List ℕ) → are_bytes bs ≡ true → all is_item (hex bs) ≡ true
 hex-item [] h = refl
 hex-item (b ∷ bs) h = all_hex_item (hex_digits (b ∷ bs)) (hex_digits-all (b ∷ bs) h)
 
-pub hex-line : (bs : List ℕ) → are_bytes bs ≡ true → all Line (hex bs) ≡ true
+pub hex-line : (bs : List ℕ) → are_bytes bs ≡ true → all is_line (hex bs) ≡ true
 hex-line [] h = refl
 hex-line (b ∷ bs) h = all_hex_line (hex_digits (b ∷ bs)) (hex_digits-all (b ∷ bs) h)

@@ -10,20 +10,17 @@ use borrow.Author.Tests.{leb-true, leb-false, eqb-true}
 use lib.Dec.{leb, eqb}
 use lib.ListN.{length, get_or, take, drop, length-append, length-drop}
 use lib.Seq.{append_snoc, drop-append-le, length-take-le, split_at, take-suc}
-use Rattle.forms.specs.declared.bytes.ByteKind.{ByteKind}
-use Rattle.forms.specs.declared.bytes.ByteKind.TheVariants.{Letter, Digit, HexDigit}
-use Rattle.forms.specs.declared.form.End.{End}
-use Rattle.forms.specs.declared.form.End.TheVariants.{Behind, Stopped}
-use Rattle.forms.specs.Bytes.{is_kind, front}
-use Rattle.forms.specs.Form.{is_number, plain_end, is_open, form_end}
+use Rattle.std.specs.Prelude.{Ok, Err}
+use Rattle.forms.specs.Bytes.{front, is_letter, is_digit, is_hex_digit}
+use Rattle.forms.specs.Form.{End, stop, is_number, plain_end, is_open, form_end}
 use Rattle.forms.specs.Grammar.{Begins}
 use Rattle.forms.proofs.FormLaws.{split, moved, item_end, beyond, items_from, word_from, form-from}
 use Rattle.forms.proofs.FormLaws.{Fits, form-fits, form-whole}
 use Rattle.forms.proofs.FormLaws.Fits.{whole, begun}
 
 abbrev place : End → ℕ
-place (Behind n) = n
-place (Stopped n) = n
+place (Ok n) = n
+place (Err e) = e.at
 
 -- An end at or before c is the same with other bytes behind c.
 abbrev Local : (List ℕ → End) → Type 0
@@ -32,17 +29,17 @@ Local read = (u : List ℕ) (c : ℕ) (v w : List ℕ) → place (read (u ++ (c 
 
 -- ---- how many bytes of a kind stand in front, with other bytes behind c
 
-front_same : (kind : ByteKind) (u : List ℕ) (c : ℕ) (v w : List ℕ) → front kind (u ++ (c ∷ v)) ≤ length u
+front_same : (kind : ℕ → Bool) (u : List ℕ) (c : ℕ) (v w : List ℕ) → front kind (u ++ (c ∷ v)) ≤ length u
     → front kind (u ++ (c ∷ w)) ≡ front kind (u ++ (c ∷ v))
-front_same kind [] c v w h = go (is_kind kind c) refl
+front_same kind [] c v w h = go (kind c) refl
   where
-    go : (t : Bool) → is_kind kind c ≡ t → front kind (c ∷ w) ≡ front kind (c ∷ v)
+    go : (t : Bool) → kind c ≡ t → front kind (c ∷ w) ≡ front kind (c ∷ v)
     go true e = absurd (omega (arith, rw e at h))
     go false e = rw e refl
-front_same kind (b ∷ u) c v w h = go (front_same kind u c v w) (is_kind kind b) refl
+front_same kind (b ∷ u) c v w h = go (front_same kind u c v w) (kind b) refl
   where
     go : (front kind (u ++ (c ∷ v)) ≤ length u → front kind (u ++ (c ∷ w)) ≡ front kind (u ++ (c ∷ v))) → (t : Bool)
-        → is_kind kind b ≡ t → front kind ((b ∷ u) ++ (c ∷ w)) ≡ front kind ((b ∷ u) ++ (c ∷ v))
+        → kind b ≡ t → front kind ((b ∷ u) ++ (c ∷ w)) ≡ front kind ((b ∷ u) ++ (c ∷ v))
     go f true e = rw e (ap suc (f (omega (arith, rw e at h))))
     go f false e = rw e refl
 
@@ -50,12 +47,12 @@ first-same : (u : List ℕ) (c : ℕ) (v w : List ℕ) (d : ℕ) → get_or (u +
 first-same [] c v w d = refl
 first-same (b ∷ u) c v w d = refl
 
-digits_le : (s : List ℕ) → front Digit s ≤ front HexDigit s
+digits_le : (s : List ℕ) → front is_digit s ≤ front is_hex_digit s
 digits_le [] = omega arith
-digits_le (b ∷ s) = go (digits_le s) (is_kind Digit b) refl
+digits_le (b ∷ s) = go (digits_le s) (is_digit b) refl
   where
-    go : front Digit s ≤ front HexDigit s → (t : Bool) → is_kind Digit b ≡ t
-        → front Digit (b ∷ s) ≤ front HexDigit (b ∷ s)
+    go : front is_digit s ≤ front is_hex_digit s → (t : Bool) → is_digit b ≡ t
+        → front is_digit (b ∷ s) ≤ front is_hex_digit (b ∷ s)
     go f true e = rw e (omega arith)
     go f false e = rw e (omega arith)
 
@@ -63,17 +60,17 @@ digits_le (b ∷ s) = go (digits_le s) (is_kind Digit b) refl
 
 -- An item ends behind its letters and its digits.
 plain_ahead : (s : List ℕ) → eqb (get_or s 0 0) (code "-") ≡ false
-    → (front Letter s ≤ place (plain_end s)) × (front HexDigit s ≤ place (plain_end s))
+    → (front is_letter s ≤ place (plain_end s)) × (front is_hex_digit s ≤ place (plain_end s))
 unfolding plain_end
 plain_ahead s e =
     rw e
-    (split Goal (leb (front HexDigit s) (front Letter s))
-    (λ q. split Goal (eqb (front Letter s) 0) (λ z. omega (arith, leb-true, eqb-true)) (λ _. omega (arith, leb-true)))
-    (λ q. split Goal (eqb (front HexDigit s % 2) 0 || is_number s (front HexDigit s)) (λ _. omega (arith, leb-false))
+    (split Goal (leb (front is_hex_digit s) (front is_letter s))
+    (λ q. split Goal (eqb (front is_letter s) 0) (λ z. omega (arith, leb-true, eqb-true)) (λ _. omega (arith, leb-true)))
+    (λ q. split Goal (eqb (front is_hex_digit s % 2) 0 || is_number s (front is_hex_digit s)) (λ _. omega (arith, leb-false))
     (λ _. omega (arith, leb-false))))
   where
     Goal : End → Type 0
-    Goal x = (front Letter s ≤ place x) × (front HexDigit s ≤ place x)
+    Goal x = (front is_letter s ≤ place x) × (front is_hex_digit s ≤ place x)
 
 plain_local : Local plain_end
 unfolding plain_end is_number
@@ -87,9 +84,9 @@ plain_local u c v w h = go (eqb (get_or (u ++ (c ∷ v)) 0 0) (code "-")) refl
         rw (
           first-same u c v w 0,
           first-same u c v w (code "0"),
-          front_same Letter u c v w (omega arith),
-          front_same HexDigit u c v w (omega arith),
-          front_same Digit u c v w (omega arith),
+          front_same is_letter u c v w (omega arith),
+          front_same is_hex_digit u c v w (omega arith),
+          front_same is_digit u c v w (omega arith),
         )
         refl
 
@@ -100,19 +97,19 @@ cond_local l true x y x' y' f g h = f h
 cond_local l false x y x' y' f g h = g h
 
 moved_place : (n : ℕ) (e : End) → place (moved n e) ≡ n + place e
-moved_place n (Behind m) = refl
-moved_place n (Stopped m) = refl
+moved_place n (Ok m) = refl
+moved_place n (Err e) = refl
 
 beyond_place : (e : End) (f : ℕ → End) → suc (place e) ≤ place (beyond e f)
-beyond_place (Behind n) f = omega (arith, moved_place (suc n) (f n))
-beyond_place (Stopped n) f = omega arith
+beyond_place (Ok n) f = omega (arith, moved_place (suc n) (f n))
+beyond_place (Err e) f = omega arith
 
 beyond_local : (e : End) (l : ℕ) (f g : ℕ → End) → ((n : ℕ) → n ≤ l → place (f n) ≤ l - n → g n ≡ f n)
     → place (beyond e f) ≤ suc l → beyond e g ≡ beyond e f
-beyond_local (Behind n) l f g same h =
+beyond_local (Ok n) l f g same h =
     let p = moved_place (suc n) (f n) in
     ap (moved (suc n)) (same n (omega arith) (omega arith))
-beyond_local (Stopped n) l f g same h = refl
+beyond_local (Err e) l f g same h = refl
 
 module _ (nested : List ℕ → End) (nested-local : Local nested) where
   item_local : Local (item_end nested)
@@ -159,10 +156,10 @@ module _ (nested : List ℕ → End) (nested-local : Local nested) where
           (more (drop n u) (omega arith) (omega arith) (rw x (rw (drop-append-le n u (c ∷ v) m) at j))))
           i)
 
-word_ahead : (depth : ℕ) (s : List ℕ) → suc (front Letter s) ≤ place (word_from depth s)
+word_ahead : (depth : ℕ) (s : List ℕ) → suc (front is_letter s) ≤ place (word_from depth s)
 word_ahead depth s =
-    split (λ (e : End). suc (front Letter s) ≤ place e) (eqb (front Letter s) 0) (λ q. omega (arith, eqb-true))
-    (λ _. rw (moved_place (suc (front Letter s))) (omega arith))
+    split (λ (e : End). suc (front is_letter s) ≤ place e) (eqb (front is_letter s) 0) (λ q. omega (arith, eqb-true))
+    (λ _. rw (moved_place (suc (front is_letter s))) (omega arith))
 
 -- Where the reader ends, it has looked at the byte there and at none behind it.
 form_local : (depth : ℕ) → Local (form_end depth)
@@ -178,13 +175,13 @@ form_local (suc depth) (b ∷ u) c v w h =
     (rw (form-from depth b (u ++ (c ∷ v))) at h))
   where
     n : ℕ
-    n = front Letter (u ++ (c ∷ v))
+    n = front is_letter (u ++ (c ∷ v))
 
     opened : Local (form_end depth) → place (word_from depth (u ++ (c ∷ v))) ≤ suc (length u)
         → word_from depth (u ++ (c ∷ w)) ≡ word_from depth (u ++ (c ∷ v))
     opened nested-local g =
         let i : n ≤ length u = omega (arith, word_ahead depth (u ++ (c ∷ v))) in
-        rw (front_same Letter u c v w i)
+        rw (front_same is_letter u c v w i)
         (cond_local (suc (length u)) (eqb n 0) _ _ _ _ (λ _. refl)
         (λ j.
         let x = length-drop n u in
@@ -197,15 +194,15 @@ form_local (suc depth) (b ∷ u) c v w h =
         (drop n u) c v w (omega arith) (omega arith) (omega arith))))
         g)
 
-stopped-fits : {P : List ℕ → Type 0} {s : List ℕ} {e : End} (n : ℕ) → Fits P s e → e ≡ Stopped n
+stopped-fits : {P : List ℕ → Type 0} {s : List ℕ} {e : End} (n : ℕ) → Fits P s e → e ≡ stop n
     → (n ≤ length s) × ((t : List ℕ) × P (take n s ++ t))
 stopped-fits n (whole m h p) q = let z : ◌≡◌ {A = ℕ} 0 1 = cc in absurd (omega arith)
 stopped-fits {P} {s} n (begun m t h p) q =
-    let r : m ≡ n = cc in
+    let r : m ≡ n = ap place q in
     subst (λ (k : ℕ). (k ≤ length s) × ((t : List ℕ) × P (take k s ++ t))) r (h, (t, p))
 
 -- Where the reader stops, the bytes before begin a form, and with one byte more they begin none.
-pub form_stops : (depth : ℕ) (s : List ℕ) (k : ℕ) → 0 < depth → form_end depth s ≡ Stopped k
+pub form_stops : (depth : ℕ) (s : List ℕ) (k : ℕ) → 0 < depth → form_end depth s ≡ stop k
     → (k ≤ length s) × Begins depth (take k s) × (k < length s → Begins depth (take (suc k) s) → ⊥)
 form_stops zero s k h e = absurd (omega arith)
 form_stops (suc depth) s k h e = (x.0, x.1, never)
@@ -227,7 +224,7 @@ form_stops (suc depth) s k h e = (x.0, x.1, never)
 
     never : k < length s → Begins (suc depth) (take (suc k) s) → ⊥
     never l b =
-        let stop : form (u ++ (c ∷ v)) ≡ Stopped k = ap form (sym (split_at s k 0 l)) ∙ e in
+        let stop : form (u ++ (c ∷ v)) ≡ stop k = ap form (sym (split_at s k 0 l)) ∙ e in
         let m : place (form (u ++ (c ∷ v))) ≤ length u = rw (stop, length-take-le k s x.0) (omega arith) in
         let again = form_local (suc depth) u c v b.0 m in
         let more = take-suc s k 0 l in

@@ -1,13 +1,12 @@
 -- Document 02's grammar of forms (2026-01), by what is written.
 use Rattle.std.specs.Prelude.{ℕ, zero, suc, ◌≡◌, true, List, ◌∷◌, ◌++◌}
-use Rattle.forms.specs.declared.bytes.ByteKind.TheVariants.{Letter}
-use Rattle.forms.specs.Bytes.{text, all}
+use Rattle.forms.specs.Bytes.{text, all, is_letter}
 use Rattle.forms.specs.Decimal.{decimal}
 use Rattle.forms.specs.Hex.{hex, are_bytes}
 
 -- "a word": one or more letters a to z.
 pub data Word : List ℕ → Type 0 where
-  letters : (b : ℕ) (s : List ℕ) → all Letter (b ∷ s) ≡ true → Word (b ∷ s)
+  letters : (b : ℕ) (s : List ℕ) → all is_letter (b ∷ s) ≡ true → Word (b ∷ s)
 
 -- "words, decimal numbers, hexadecimal strings or forms"
 pub data Item (Nested : List ℕ → Type 0) : List ℕ → Type 0 where

@@ -1,8 +1,7 @@
 -- Hexadecimal strings: written, and read.
 use Rattle.std.specs.Prelude.{ℕ, ◌+◌, ◌-◌, ◌*◌, ◌/◌, ◌%◌, Bool, true, false, cond, ◌&&◌, List, [], ◌∷◌, ◌++◌, ltb, eqb, length, get_or, take, drop}
 use Prim.Native.Char.{code}
-use Rattle.forms.specs.declared.bytes.ByteKind.TheVariants.{Digit, HexDigit}
-use Rattle.forms.specs.Bytes.{text, is_kind, front}
+use Rattle.forms.specs.Bytes.{text, front, is_digit, is_hex_digit}
 
 -- A digit of a number below 16, in lower case.
 abbrev pub hex_digit : ℕ → ℕ
@@ -28,11 +27,11 @@ unfoldable pub is_hex : List ℕ → Bool
 is_hex s =
     cond (eqb (length s) 0) false
     (cond (eqb (length s) 1) (eqb (get_or s 0 0) (code "-"))
-    (eqb (length s % 2) 0 && eqb (front HexDigit s) (length s)))
+    (eqb (length s % 2) 0 && eqb (front is_hex_digit s) (length s)))
 
 -- What a digit says; of any other byte, 0.
 unfoldable pub digit_value : ℕ → ℕ
-digit_value b = cond (is_kind Digit b) (b - code "0") (cond (is_kind HexDigit b) (b - code "a" + 10) 0)
+digit_value b = cond (is_digit b) (b - code "0") (cond (is_hex_digit b) (b - code "a" + 10) 0)
 
 -- What pairs of digits say.
 abbrev pub hex_bytes : List ℕ → List ℕ

@@ -1,57 +1,87 @@
 // Kinds of bytes, and how many bytes of a kind stand in front.
-ghost use Rattle.std.specs.Prelude.{◌≡◌, ◌&&◌, leb};
-ghost use Rattle.forms.specs.Bytes.{is_kind, front, run_at};
+ghost use Rattle.std.specs.Prelude.{◌≡◌, ◌≤◌, ℕ, Bool, length};
+ghost use Rattle.forms.specs.Bytes.{is_letter, is_digit, is_hex_digit, is_item, is_line, front, run_at};
 
-#[derive(Clone, Copy)]
-pub enum ByteKind {
-    Letter,
-    Digit,
-    HexDigit,
-    // Neither a blank nor a closing bracket.
-    Item,
-    // No newline.
-    Line,
+// A kind of bytes, by its test. A kind is a type and not a closure, so that a function over kinds asks
+// nothing of its callers.
+pub trait Kind {
+    ghost test: { ℕ → Bool };
+
+    fn has(b: u8) -> bool
+        ensures { result ≡ test b };
 }
 
-fn between(low: u8, b: u8, high: u8) -> bool
-    ensures { result ≡ leb low b && leb b high }
-{
-    low <= b && b <= high
-}
+pub struct Letter;
 
-pub(crate) fn is_kind(kind: ByteKind, b: u8) -> bool
-    ensures { result ≡ is_kind kind b }
-{
-    match kind {
-        ByteKind::Letter => between(b'a', b, b'z'),
-        ByteKind::Digit => between(b'0', b, b'9'),
-        ByteKind::HexDigit => between(b'0', b, b'9') || between(b'a', b, b'f'),
-        ByteKind::Item => b != b' ' && b != b')',
-        ByteKind::Line => b != b'\n',
+pub struct Digit;
+
+pub struct HexDigit;
+
+// Neither a blank nor a closing bracket.
+pub struct Item;
+
+// No newline.
+pub struct Line;
+
+impl Kind for Letter {
+    ghost test = { is_letter };
+
+    fn has(b: u8) -> bool {
+        b.is_ascii_lowercase()
     }
 }
 
-// How many bytes of a kind stand in front.
-pub(crate) fn front(kind: ByteKind, s: &[u8]) -> usize
-    ensures { result ≡ front kind s.now }
+impl Kind for Digit {
+    ghost test = { is_digit };
+
+    fn has(b: u8) -> bool {
+        b.is_ascii_digit()
+    }
+}
+
+impl Kind for HexDigit {
+    ghost test = { is_hex_digit };
+
+    fn has(b: u8) -> bool {
+        Digit::has(b) || matches!(b, b'a'..=b'f')
+    }
+}
+
+impl Kind for Item {
+    ghost test = { is_item };
+
+    fn has(b: u8) -> bool {
+        b != b' ' && b != b')'
+    }
+}
+
+impl Kind for Line {
+    ghost test = { is_line };
+
+    fn has(b: u8) -> bool {
+        b != b'\n'
+    }
+}
+
+// How many bytes of a kind stand in front. This is a loop and not the library's `position`: the check does not
+// find this clause from that of `position`.
+pub(crate) fn front<K: Kind>(s: &[u8]) -> usize
+    ensures { result ≡ front K.test s.now }
 {
-    let mut n = 0;
-    while n < s.len() {
-        if !is_kind(kind, s[n]) {
+    for (n, b) in s.iter().enumerate() {
+        if !K::has(*b) {
             return n;
         }
-        n += 1;
     }
-    n
+    s.len()
 }
 
 // The bytes of a kind that stand in a row from a place on.
-pub fn run_at(kind: ByteKind, s: &[u8], at: usize) -> &[u8]
-    ensures { result.now ≡ run_at kind s.now at }
+pub fn run_at<K: Kind>(s: &[u8], at: usize) -> &[u8]
+    ensures { result.now ≡ run_at K.test s.now at }
 {
-    if s.len() < at {
-        return &s[0..0];
+    match s.get(at..) {
+        Some(rest) => &rest[..front::<K>(rest)],
+        None => &[],
     }
-    let to = at + front(kind, &s[at..]);
-    &s[at..to]
 }

@@ -2,50 +2,33 @@
 ghost use Rattle.std.specs.Prelude.{◌≡◌};
 ghost use Rattle.forms.specs.Decimal.{decimal_of, with_digit};
 
-use super::bytes;
-use super::bytes::ByteKind;
-
-#[derive(Clone, Copy)]
-pub enum Number {
-    Is(u64),
-    Not,
-}
+use super::bytes::{Digit, Kind};
 
 // A number with a digit behind it.
-fn with_digit(n: u64, b: u8) -> Number
+#[tactic(auto, using(crate::proofs::FormSteps::digit_refused, crate::proofs::FormSteps::digit_over, crate::proofs::FormSteps::digit_added))]
+fn with_digit(n: u64, b: u8) -> Option<u64>
     ensures { result ≡ with_digit n b }
 {
-    if !bytes::is_kind(ByteKind::Digit, b) {
-        return Number::Not;
+    if !Digit::has(b) {
+        return None;
     }
-    let d = (b - b'0') as u64;
-    if (0xffff_ffff_ffff_ffff - d) / 10 < n {
-        return Number::Not;
-    }
-    Number::Is(n * 10 + d)
+    n.checked_mul(10)?.checked_add((b - b'0') as u64)
 }
 
-// The number that the bytes are in decimal.
-pub fn decimal(s: &[u8]) -> Number
+// The number that the bytes are in decimal. The library's `parse` wants a &str, and takes a plus sign and
+// leading zeros too.
+pub fn decimal(s: &[u8]) -> Option<u64>
     ensures { result ≡ decimal_of s.now }
 {
-    if s.len() == 0 {
-        return Number::Not;
+    if s.is_empty() {
+        return None;
     }
     if s[0] == b'0' && 1 < s.len() {
-        return Number::Not;
+        return None;
     }
     let mut n = 0;
-    let mut i = 0;
-    while i < s.len() {
-        let longer = with_digit(n, s[i]);
-        match longer {
-            Number::Is(m) => {
-                n = m;
-            }
-            Number::Not => return Number::Not,
-        }
-        i += 1;
+    for b in s {
+        n = with_digit(n, *b)?;
     }
-    Number::Is(n)
+    Some(n)
 }

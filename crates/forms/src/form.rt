@@ -5,93 +5,85 @@
 ghost use Rattle.std.specs.Prelude.{◌≡◌};
 ghost use Rattle.forms.specs.Form.{is_number, plain_end, open_end, is_open, form_end};
 
-use super::bytes;
-use super::bytes::ByteKind;
+use super::bytes::{Digit, HexDigit, Letter, front};
 
-// Where reading ended: behind what was to be read, or at the first byte that cannot stand there,
-// which may be the one that is missing at the end.
-#[derive(Clone, Copy)]
-pub enum End {
-    Behind(usize),
-    Stopped(usize),
+// Reading stopped at the first byte that cannot stand there, which may be the one that is missing at
+// the end. Where it did not stop, the answer is the place behind what was to be read.
+#[derive(Clone, Copy, Debug)]
+pub struct Stopped {
+    pub at: usize,
 }
 
 // Whether the first n bytes are a number without a leading zero; n is not 0.
+#[tactic(auto, unfolding(crate::specs::Form::is_number))]
 fn is_number(s: &[u8], n: usize) -> bool
     ensures { result ≡ is_number s.now n }
 {
-    if bytes::front(ByteKind::Digit, s) < n {
+    if front::<Digit>(s) < n {
         return false;
     }
-    if n == 1 {
-        return true;
-    }
-    0 < s.len() && s[0] != b'0'
+    n == 1 || 0 < s.len() && s[0] != b'0'
 }
 
 // Behind an item that is not a form.
-fn plain_end(s: &[u8]) -> End
+fn plain_end(s: &[u8]) -> Result<usize, Stopped>
     ensures { result ≡ plain_end s.now }
 {
-    if 0 < s.len() && s[0] == b'-' {
-        return End::Behind(1);
+    if s.starts_with(b"-") {
+        return Ok(1);
     }
-    let letters = bytes::front(ByteKind::Letter, s);
-    let digits = bytes::front(ByteKind::HexDigit, s);
+    let letters = front::<Letter>(s);
+    let digits = front::<HexDigit>(s);
     if digits <= letters {
         if letters == 0 {
-            return End::Stopped(0);
+            return Err(Stopped { at: 0 });
         }
-        return End::Behind(letters);
+        return Ok(letters);
     }
-    if digits % 2 == 0 {
-        return End::Behind(digits);
+    if digits % 2 == 0 || is_number(s, digits) {
+        return Ok(digits);
     }
-    if is_number(s, digits) {
-        return End::Behind(digits);
-    }
-    End::Stopped(digits)
+    Err(Stopped { at: digits })
 }
 
+#[tactic(auto, unfolding(crate::specs::Form::is_open))]
 fn is_open(s: &[u8]) -> bool
     ensures { result ≡ is_open s.now }
 {
-    0 < s.len() && s[0] == b'('
+    s.starts_with(b"(")
 }
 
 // Behind a form's bracket and its word.
-fn open_end(s: &[u8]) -> End
+#[tactic(auto, using(crate::proofs::BytesLaws::front_le, crate::proofs::FormSteps::from_place), unfolding(crate::specs::Form::open_end))]
+fn open_end(s: &[u8]) -> Result<usize, Stopped>
     ensures { result ≡ open_end s.now }
 {
     if !is_open(s) {
-        return End::Stopped(0);
+        return Err(Stopped { at: 0 });
     }
-    let n = bytes::front(ByteKind::Letter, &s[1..]);
+    let n = front::<Letter>(&s[1..]);
     if n == 0 {
-        return End::Stopped(1);
+        return Err(Stopped { at: 1 });
     }
-    End::Behind(1 + n)
+    Ok(1 + n)
 }
 
 // Behind a form that is at most so deep.
-fn form_within(s: &[u8], depth: u8) -> End
+fn form_within(s: &[u8], depth: u8) -> Result<usize, Stopped>
     ensures { result ≡ form_end depth s.now }
 {
     if depth == 0 {
-        return End::Stopped(0);
+        return Err(Stopped { at: 0 });
     }
-    let opened = open_end(s);
-    let mut at = match opened {
-        End::Behind(n) => n,
-        End::Stopped(n) => return End::Stopped(n),
-    };
+    // Each turn goes past a blank and a whole item. Items differ in length, so the loop goes by the place.
+    let mut at = open_end(s)?;
     while at < s.len() {
         let b = s[at];
         if b == b')' {
-            return End::Behind(at + 1);
+            return Ok(at + 1);
         }
         if b != b' ' {
-            return End::Stopped(at);
+            break;
         }
         let from = at + 1;
         let rest = &s[from..];
@@ -100,18 +92,19 @@ fn form_within(s: &[u8], depth: u8) -> End
         } else {
             plain_end(rest)
         };
-        match item {
-            End::Behind(n) => {
-                at = from + n;
-            }
-            End::Stopped(n) => return End::Stopped(from + n),
-        }
+        // A refusal's place is moved by a match: `map_err` would need a closure with a contract of its own.
+        at = match item {
+            Ok(n) => from + n,
+            Err(stopped) => return Err(Stopped {
+                at: from + stopped.at,
+            }),
+        };
     }
-    End::Stopped(at)
+    Err(Stopped { at })
 }
 
 // Behind the form in front, to document 02's depth of four.
-pub fn form_end(s: &[u8]) -> End
+pub fn form_end(s: &[u8]) -> Result<usize, Stopped>
     ensures { result ≡ form_end 4 s.now }
 {
     form_within(s, 4)

@@ -1,7 +1,7 @@
 -- The laws that the proofs of `host` cite.
--- Tests: tests of numbers that come out alike.
+-- Numbers: the library's numbers of eight bytes.
 -- ReadLaws, AnswerLaws, RunLaws: a call that is read, an answer that is written, the run of a list.
-mod Tests
+mod Numbers
 mod ReadLaws
 mod AnswerLaws
 mod RunLaws

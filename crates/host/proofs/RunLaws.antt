@@ -5,41 +5,28 @@ use mathlib.Core.List.{List, [], ◌∷◌, ◌++◌, append_assoc, append-nil}
 use Prim.Native.Nat.{ℕ, zero, suc, ◌+◌, ◌-◌, ◌≤◌, ◌<◌}
 use native.Mathlib.Omega.{arith}
 use borrow.Author.Tests.{lt-ltb, le-ltb, ltb-false, leb-true}
-use lib.ListN.{length, take, drop, get_or, length-drop, length-append, take-append-drop, drop_of_length-le}
+use borrow.Rule.Slice.PartMut.{put_mid}
+use lib.ListN.{length, take, drop, get_or, length-take, length-drop, length-append, take-append-drop}
 use lib.Dec.{leb, ltb}
-use lib.Seq.{take_at, take_all, drop_at, drop-drop, length-take-le}
+use lib.Seq.{take_at, drop_at, drop-drop, length-take-le}
+use Rattle.std.specs.Prelude.{None, Some}
+use Rattle.std.specs.List.{slice_get}
+use Rattle.std.proofs.lemmas.Option.{none-some, same_Some, cond_some}
+use Rattle.tc_aead_cipher.specs.declared.call.CallKind.{CallKind}
 use Rattle.tc_aead_cipher.specs.declared.variant.SparkleVariant.{SparkleVariant}
 use Rattle.tc_sparkle_aead.specs.declared.engine.SparkleEngine.{SparkleEngine}
 use Rattle.tc_sparkle_aead.specs.Engine.{new_engine}
 use Rattle.tc_sparkle_aead.specs.Message.{written}
-use Rattle.tc_aead_cipher.specs.Call.{Call}
+use Rattle.tc_aead_cipher.specs.Call.{Call, call_of}
 use Rattle.tc_sparkle_aead.specs.Sheet.{step}
-use Rattle.host.specs.declared.call.Head.{Head}
-use Rattle.host.specs.declared.call.Read.{Read}
-use Rattle.host.specs.declared.call.Read.TheVariants.{Malformed, Call as ReadCall}
-use Rattle.host.specs.declared.run.Stop.{Stop}
-use Rattle.host.specs.CallList.{head_of, call_length, well_formed, read_of, call_in, shown_length, answer_of, Ran, stopped, answered, run_calls, calls_in, answers_of, run_list}
+use Rattle.host.specs.CallList.{Head, head_of, call_length, well_formed, read_of, IsRead, third_run, call_in, shown_by, shown_length, answer_of, Ran, stopped, answered, run_calls, calls_in, answers_of, run_list}
 use Rattle.tc_aead_cipher.specs.Variant.{variant_of, is_variant}
 
 -- ---- what was read
 
-abbrev is_call : Read → ℕ
-is_call Malformed = 0
-is_call (ReadCall h) = 1
-
-abbrev head_in : Head → Read → Head
-head_in h Malformed = h
-head_in h (ReadCall k) = k
-
-by_form : (b : Bool) (h k : Head) → cond b (ReadCall k) Malformed ≡ ReadCall h → (h ≡ k) × (b ≡ true)
-by_form true h k e = (sym (ap (head_in h) e), refl)
-by_form false h k e =
-    let z : ◌≡◌ {A = ℕ} 0 1 = ap is_call e in absurd (omega arith)
-
-by-none : (b : Bool) (k : Head) → cond b (ReadCall k) Malformed ≡ Malformed → b ≡ false
-by-none true k e =
-    let z : ◌≡◌ {A = ℕ} 1 0 = ap is_call e in absurd (omega arith)
-by-none false k e = refl
+by_none : (b : Bool) (k : Head) → cond b (Some k) None ≡ None → b ≡ false
+by_none true k e = absurd (none-some k (sym e))
+by_none false k e = refl
 
 not_false : (b x : Bool) → cond b false x ≡ true → x ≡ true
 not_false true x e =
@@ -56,21 +43,39 @@ length_within rest t =
     (not_false (ltb (length rest) 33)
     (cond (ltb h.kind 1) false (cond (ltb 9 h.kind) false (leb (call_length h) (length rest)))) t)))
 
-pub read_found : (rest : List ℕ) (h : Head) → ReadCall h ≡ read_of rest
+pub read_found : (rest : List ℕ) (h : Head) → Some h ≡ read_of rest
     → (h ≡ head_of rest) × (well_formed rest ≡ true) × (call_length h ≤ length rest)
 unfolding read_of
 read_found rest h e =
-    let f = by_form (well_formed rest) h (head_of rest) (sym e) in
-    let same : call_length h ≡ call_length (head_of rest) = ap (λ (k : Head). call_length k) f.0 in
-    (f.0, f.1, omega (arith, same, length_within rest f.1))
+    let f = cond_some (well_formed rest) (head_of rest) h (sym e) in
+    let same : call_length h ≡ call_length (head_of rest) = ap call_length (sym f.1) in
+    (sym f.1, f.0, omega (arith, same, length_within rest f.0))
 
-pub read_none : (rest : List ℕ) → Malformed ≡ read_of rest → well_formed rest ≡ false
+pub read_none : (rest : List ℕ) → None ≡ read_of rest → well_formed rest ≡ false
 unfolding read_of
-read_none rest e = by-none (well_formed rest) (head_of rest) (sym e)
+read_none rest e = by_none (well_formed rest) (head_of rest) (sym e)
 
--- what is lent from a place on
-pub from_place : (l : List ℕ) (at : ℕ) → take (length l - at) (drop at l) ≡ drop at l
-from_place l at = take_all (length l - at) (drop at l) (simp length-drop (omega arith))
+module _ (rest : List ℕ) (kind : CallKind) (n : ℕ) (first second third behind : List ℕ) (r : IsRead rest kind n first second third behind) where
+  found : (head_of rest ≡ head_of rest) × (well_formed rest ≡ true) × (call_length (head_of rest) ≤ length rest)
+  found = read_found rest (head_of rest) r.found
+
+  -- the call that was read is the list's
+  same_call : call_of kind n first second third third ≡ call_in (head_of rest) (drop 33 rest)
+  unfolding call_in
+  same_call = rw (r.kind_is, r.number_is, r.first_is, r.second_is, r.third_is) refl
+
+  -- what its answer shows
+  third_length : length third ≡ (head_of rest).third
+  unfolding call_length third_run
+  third_length = ap length r.third_is ∙ simp (length-take, length-drop) (omega (arith, found.2))
+
+  same_length : shown_by kind (length third) ≡ shown_length (head_of rest)
+  unfolding shown_length
+  same_length = ap₂ shown_by r.kind_is third_length
+
+  pub shorter : length behind < length rest
+  unfolding call_length
+  shorter = omega (arith, ap length r.behind_is, length-drop (call_length (head_of rest)) rest, found.2)
 
 -- ---- a turn of the definition
 
@@ -111,212 +116,146 @@ answered_twice u v r =
 
 -- ---- the loop
 
--- The run W of a list, while the loop stands at a place of it with `used` bytes of the answers written.
-pub record Walking (W : Ran) (list out₀ out : List ℕ) (e : SparkleEngine) (at used : ℕ) : Type 0 where
+-- The run W of a list, while the loop has the rest of it to go and `used` bytes of the answers are written.
+pub record Walking (W : Ran) (rest out₀ out : List ℕ) (e : SparkleEngine) (used : ℕ) : Type 0 where
   pub fuel : ℕ
-  pub enough : length list - at ≤ fuel
-  pub within : at ≤ length list
+  pub enough : length rest ≤ fuel
   pub room : used ≤ length out₀
   pub size : length out ≡ length out₀
-  pub run_is : W ≡ answered (take used out) (run_calls fuel (drop at list) e (length out₀ - used))
-  pub rest : drop used out ≡ drop used out₀
+  pub run_is : W ≡ answered (take used out) (run_calls fuel rest e (length out₀ - used))
+  pub later : drop used out ≡ drop used out₀
 
-pub walk_start : (list out : List ℕ) (e : SparkleEngine) → 1 ≤ length list
-    → Walking (run_calls (length list) (drop 1 list) e (length out)) list out out e 1 0
+pub walk_start : (rest out : List ℕ) (e : SparkleEngine) (fuel : ℕ) → length rest ≤ fuel
+    → Walking (run_calls fuel rest e (length out)) rest out out e 0
 unfolding answered
-walk_start list out e h =
+walk_start rest out e fuel h =
     let n : length out - 0 ≡ length out = omega arith in
     record {
-      fuel = length list;
-      enough = omega arith;
-      within = h;
+      fuel = fuel;
+      enough = h;
       room = omega arith;
       size = refl;
-      run_is = ap (run_calls (length list) (drop 1 list) e) (sym n);
-      rest = refl;
+      run_is = ap (run_calls fuel rest e) (sym n);
+      later = refl;
     }
 
-module _ (W : Ran) (list out₀ out : List ℕ) (e : SparkleEngine) (at used : ℕ) (w : Walking W list out₀ out e at used) where
+module _ {W : Ran} {rest out₀ out : List ℕ} {e : SparkleEngine} {used : ℕ} (w : Walking W rest out₀ out e used) where
   -- where the run stops
-  stop : (code : ℕ) → run_calls w.fuel (drop at list) e (length out₀ - used) ≡ stopped code (drop at list)
-      → (◌≡◌ {A = Stop} (record { code = code; place = at }) (record { code = W.code; place = length list - W.left }))
-      × (out ≡ written W.answers out₀)
+  stop : (code : ℕ) → run_calls w.fuel rest e (length out₀ - used) ≡ stopped code rest
+      → (code ≡ W.code) × (length rest ≡ W.left) × (out ≡ written W.answers out₀)
   unfolding answered stopped written
   stop code s =
-      let t : W ≡ record { code = code; left = length (drop at list); answers = take used out ++ [] } =
+      let t : W ≡ record { code = code; left = length rest; answers = take used out ++ [] } =
       w.run_is ∙ ap (answered (take used out)) s in
-      let n : at ≡ length list - length (drop at list) = simp length-drop (omega (arith, w.within)) in
       let u : length (take used out) ≡ used = length-take-le used out (omega (arith, w.size, w.room)) in
       let whole : out ≡ take used out ++ drop used out₀ =
-      sym (take-append-drop used out) ∙ ap (λ (l : List ℕ). take used out ++ l) w.rest in (
-        rw t (λ i. record { code = code; place = n i }),
+      sym (take-append-drop used out) ∙ ap (λ (l : List ℕ). take used out ++ l) w.later in (
+        ap (λ (x : Ran). x.code) (sym t),
+        ap (λ (x : Ran). x.left) (sym t),
         rw (t, append-nil (take used out), u) whole,
       )
 
-  pub walk_end : length list ≤ at
-      → (◌≡◌ {A = Stop} (record { code = 0; place = at }) (record { code = W.code; place = length list - W.left }))
-      × (out ≡ written W.answers out₀)
-  walk_end past = stop 0 (run_end (drop at list) e _ w.fuel (simp length-drop (omega arith)))
+  pub walk_end : length rest ≡ 0 → (0 ≡ W.code) × (length rest ≡ W.left) × (out ≡ written W.answers out₀)
+  walk_end past = stop 0 (run_end rest e _ w.fuel past)
 
-  module _ (more : at < length list) where
-    some : 0 < length (drop at list)
-    some = simp length-drop (omega arith)
+  module _ (more : 0 < length rest) where
+    pub walk_malformed : None ≡ read_of rest → (21 ≡ W.code) × (length rest ≡ W.left) × (out ≡ written W.answers out₀)
+    walk_malformed r = stop 21 (run_malformed rest e _ w.fuel more w.enough (read_none rest r))
 
-    fueled : length (drop at list) ≤ w.fuel
-    fueled = simp length-drop w.enough
+    module _ {kind : CallKind} {n : ℕ} {first second third behind : List ℕ} (r : IsRead rest kind n first second third behind)
+        (shown : ℕ) (shown_is : shown ≡ shown_by kind (length third)) where
+      well : well_formed rest ≡ true
+      well = (read_found rest (head_of rest) r.found).1
 
-    pub walk_malformed : Malformed ≡ read_of (drop at list)
-        → (◌≡◌ {A = Stop} (record { code = 21; place = at }) (record { code = W.code; place = length list - W.left }))
-        × (out ≡ written W.answers out₀)
-    walk_malformed r = stop 21 (run_malformed (drop at list) e _ w.fuel some fueled (read_none (drop at list) r))
+      shows : shown ≡ shown_length (head_of rest)
+      shows = shown_is ∙ same_length rest kind n first second third behind r
 
-    module _ (h : Head) (r : ReadCall h ≡ read_of (drop at list)) where
-      found : (h ≡ head_of (drop at list)) × (well_formed (drop at list) ≡ true) × (call_length h ≤ length (drop at list))
-      found = read_found (drop at list) h r
-
-      pub call_within : 33 + h.first + h.second + h.third ≤ length list - at
-      unfolding call_length
-      call_within = simp length-drop at found.2
-
-      pub walk_no_room : leb (34 + shown_length h) (length out₀ - used) ≡ false
-          → (◌≡◌ {A = Stop} (record { code = 22; place = at }) (record { code = W.code; place = length list - W.left }))
-          × (out ≡ written W.answers out₀)
+      pub walk_no_room : leb (34 + shown) (length out - used) ≡ false
+          → (22 ≡ W.code) × (length rest ≡ W.left) × (out ≡ written W.answers out₀)
       walk_no_room f =
-          stop 22 (run_no_room (drop at list) e _ w.fuel some fueled found.1
-          (ap (λ (k : Head). leb (34 + shown_length k) (length out₀ - used)) (sym found.0) ∙ f))
+          stop 22 (run_no_room rest e _ w.fuel more w.enough well (rw (← shows, ← w.size) f))
 
       -- the next call is made and its answer written
-      module _ (f : leb (34 + shown_length h) (length out₀ - used) ≡ true) (after : SparkleEngine) (part : List ℕ) where
-        abbrev pub next : Call
-        next = call_in h (drop (at + 33) list)
+      module _ (f : leb (34 + shown) (length out - used) ≡ true) (after : SparkleEngine) (answer : List ℕ)
+          (engine : after ≡ (step e (call_of kind n first second third third)).engine)
+          (answer_is : answer ≡ answer_of e (call_of kind n first second third third)) (long : length answer ≡ 34 + shown) where
+        abbrev next : Call
+        next = call_of kind n first second third third
 
-        module _
-            (engine : after ≡ (step e next).engine)
-            (answer : part ≡ answer_of e next ++ drop (34 + shown_length h) (drop used out))
-            (same : length part ≡ length (drop used out)) where
-          fit : 34 + shown_length h ≤ length out₀ - used
-          fit = leb-true (34 + shown_length h) (length out₀ - used) f
+        fits : 34 + shown ≤ length out - used
+        fits = leb-true (34 + shown) (length out - used) f
 
-          front : length (take used out) ≡ used
-          front = length-take-le used out (omega (arith, w.size, w.room))
+        front : length (take used out) ≡ used
+        front = length-take-le used out (omega (arith, w.size, w.room))
 
-          behind : length (drop used out) ≡ length out₀ - used
-          behind = simp length-drop (omega (arith, w.size))
+        done : length (take used out ++ answer) ≡ used + (34 + shown)
+        done = length-append (take used out) answer ∙ ap₂ ◌+◌ front long
 
-          answer-length : length (answer_of e next) ≡ 34 + shown_length h
-          answer-length =
-              let a : length part ≡ length (answer_of e next) + (length (drop used out) - (34 + shown_length h)) =
-              ap length answer ∙ length-append (answer_of e next) (drop (34 + shown_length h) (drop used out))
-              ∙ ap (λ (k : ℕ). length (answer_of e next) + k) (length-drop (34 + shown_length h) (drop used out)) in
-              omega (arith, a, same, behind, fit)
+        parts : put_mid used (34 + shown) out answer ≡ (take used out ++ answer) ++ drop (34 + shown) (drop used out)
+        parts = sym (append_assoc (take used out) answer (drop (34 + shown) (drop used out)))
 
-          parts : take used out ++ part ≡ (take used out ++ answer_of e next) ++ drop (34 + shown_length h) (drop used out)
-          parts =
-              ap (λ (l : List ℕ). take used out ++ l) answer
-              ∙ sym (append_assoc (take used out) (answer_of e next) (drop (34 + shown_length h) (drop used out)))
+        unfolded : (k : ℕ) → run_calls (suc k) rest e (length out₀ - used)
+            ≡ answered answer (run_calls k behind after (length out₀ - (used + (34 + shown))))
+        unfolded k =
+            let less : length out₀ - used - (34 + shown) ≡ length out₀ - (used + (34 + shown)) = omega arith in
+            let same = same_call rest kind n first second third behind r in
+            run_call rest e (length out₀ - used) k more well (rw (← shows, ← w.size) f)
+            ∙ rw (← shows, ← same, ← r.behind_is, ← engine, ← answer_is, less) refl
 
-          done : length (take used out ++ answer_of e next) ≡ used + (34 + shown_length h)
-          done = length-append (take used out) (answer_of e next) ∙ ap₂ ◌+◌ front answer-length
+        by_fuel : (k : ℕ) → length rest ≤ k → W ≡ answered (take used out) (run_calls k rest e (length out₀ - used))
+            → Walking W behind out₀ (put_mid used (34 + shown) out answer) after (used + (34 + shown))
+        by_fuel zero enough run_is = absurd (omega arith)
+        by_fuel (suc k) enough run_is =
+            record {
+              fuel = k;
+              enough = omega (arith, shorter rest kind n first second third behind r);
+              room = omega (arith, fits, w.size, w.room);
+              size =
+                  ap length parts
+                  ∙ length-append (take used out ++ answer) (drop (34 + shown) (drop used out))
+                  ∙ simp length-drop (omega (arith, done, fits, w.size, w.room));
+              run_is =
+                  run_is
+                  ∙ ap (answered (take used out)) (unfolded k)
+                  ∙ answered_twice (take used out) answer (run_calls k behind after (length out₀ - (used + (34 + shown))))
+                  ∙ ap (λ (l : List ℕ). answered l (run_calls k behind after (length out₀ - (used + (34 + shown)))))
+                  (sym (ap (take (used + (34 + shown))) parts ∙ take_at (take used out ++ answer) (drop (34 + shown) (drop used out)) (used + (34 + shown)) done));
+              later =
+                  ap (drop (used + (34 + shown))) parts
+                  ∙ drop_at (take used out ++ answer) (drop (34 + shown) (drop used out)) (used + (34 + shown)) done
+                  ∙ ap (drop (34 + shown)) w.later
+                  ∙ drop-drop (34 + shown) used out₀;
+            }
 
-          -- the same call, as the definition has it
-          same-call : next ≡ call_in (head_of (drop at list)) (drop 33 (drop at list))
-          same-call = ap₂ call_in found.0 (sym (drop-drop 33 at list))
-
-          unfolded : (k : ℕ) → run_calls (suc k) (drop at list) e (length out₀ - used)
-              ≡ answered (answer_of e next) (run_calls k (drop (at + call_length h) list) after (length out₀ - (used + (34 + shown_length h))))
-          unfolded k =
-              let less : length out₀ - used - (34 + shown_length h) ≡ length out₀ - (used + (34 + shown_length h)) = omega arith in
-              run_call (drop at list) e (length out₀ - used) k some found.1
-              (ap (λ (x : Head). leb (34 + shown_length x) (length out₀ - used)) (sym found.0) ∙ f)
-              ∙ rw (← same-call, ← found.0, ← engine, drop-drop (call_length h) at list, less) refl
-
-          by_fuel : (k : ℕ) → length list - at ≤ k → W ≡ answered (take used out) (run_calls k (drop at list) e (length out₀ - used))
-              → Walking W list out₀ (take used out ++ part) after (at + call_length h) (used + (34 + shown_length h))
-          by_fuel zero enough run_is = absurd (omega arith)
-          by_fuel (suc k) enough run_is =
-              let called : call_length h ≤ length list - at = simp length-drop at found.2 in
-              record {
-                fuel = k;
-                enough = omega (arith, call_some);
-                within = omega arith;
-                room = omega (arith, fit, w.room);
-                size = length-append (take used out) part ∙ omega (arith, front, same, behind, w.room);
-                run_is =
-                    run_is
-                    ∙ ap (answered (take used out)) (unfolded k)
-                    ∙ answered_twice (take used out) (answer_of e next) (run_calls k (drop (at + call_length h) list) after (length out₀ - (used + (34 + shown_length h))))
-                    ∙ ap (λ (l : List ℕ). answered l (run_calls k (drop (at + call_length h) list) after (length out₀ - (used + (34 + shown_length h)))))
-                    (sym (ap (take (used + (34 + shown_length h))) parts ∙ take_at (take used out ++ answer_of e next) (drop (34 + shown_length h) (drop used out)) (used + (34 + shown_length h)) done));
-                rest =
-                    ap (drop (used + (34 + shown_length h))) parts
-                    ∙ drop_at (take used out ++ answer_of e next) (drop (34 + shown_length h) (drop used out)) (used + (34 + shown_length h)) done
-                    ∙ ap (drop (34 + shown_length h)) w.rest
-                    ∙ drop-drop (34 + shown_length h) used out₀;
-              }
-            where
-              call_some : 33 ≤ call_length h
-              call_some = head-long h
-
-          pub walk_turn : Walking W list out₀ (take used out ++ part) after (at + call_length h) (used + (34 + shown_length h))
-          walk_turn = by_fuel w.fuel w.enough w.run_is
-
-      -- as the code has it: parts that are lent from a place on, and a count
-      module _
-          (f : leb (34 + shown_length h) (length out₀ - used) ≡ true)
-          (after : SparkleEngine)
-          (last : List ℕ)
-          (n : ℕ)
-          (size : n ≡ shown_length h)
-          (engine : after ≡ (step e (call_in h (take (length list - (at + 33)) (drop (at + 33) list)))).engine)
-          (answer : last ≡ answer_of e (call_in h (take (length list - (at + 33)) (drop (at + 33) list)))
-          ++ drop (34 + shown_length h) (take (length out - used) (drop used out)))
-          (same : length last ≡ length (take (length out - used) (drop used out))) where
-        pub walk_code : Walking W list out₀ (take used out ++ (last ++ drop (length out - used) (drop used out))) after
-            (at + (33 + h.first + h.second + h.third)) (used + (34 + n))
-        unfolding call_length
-        walk_code =
-            let runs = from_place list (at + 33) in
-            let lent = from_place out used in
-            let none : drop (length out - used) (drop used out) ≡ [] =
-            drop_of_length-le (drop used out) {i = length out - used} (simp length-drop (omega arith)) in
-            let part : last ++ drop (length out - used) (drop used out) ≡ last =
-            ap (λ (l : List ℕ). last ++ l) none ∙ append-nil last in
-            let engine' : after ≡ (step e (call_in h (drop (at + 33) list))).engine =
-            engine ∙ ap (λ (l : List ℕ). (step e (call_in h l)).engine) runs in
-            let answer' : last ≡ answer_of e (call_in h (drop (at + 33) list)) ++ drop (34 + shown_length h) (drop used out) =
-            answer ∙ ap₂ (λ (l m : List ℕ). answer_of e (call_in h l) ++ drop (34 + shown_length h) m) runs lent in
-            rw (size, part) (walk_turn f after last engine' answer' (same ∙ ap length lent))
+        pub walk_turn : Walking W behind out₀ (put_mid used (34 + shown) out answer) after (used + (34 + shown))
+        walk_turn = by_fuel w.fuel w.enough w.run_is
 
 -- ---- the whole list
 
-no-first : (list : List ℕ) → length list ≡ 0 → is_variant (get_or list 0 0) ≡ false
-unfolding is_variant
-no-first [] h = refl
-no-first (x ∷ list) h = absurd (omega arith)
+-- the first byte
+pub first_byte : (list : List ℕ) (v : ℕ) → Some v ≡ slice_get list 0 → v ≡ get_or list 0 0
+first_byte [] v e = absurd (none-some v (sym e))
+first_byte (x ∷ list) v e = same_Some v x e
 
--- a list without a variant is not run
-pub list-refused : (list out : List ℕ) → is_variant (get_or list 0 0) ≡ false
-    → (◌≡◌ {A = Stop} (record { code = 21; place = 0 })
-    (record { code = (run_list list (length out)).code; place = length list - (run_list list (length out)).left }))
+-- a list whose first byte is no variant's number is not run
+pub list_refused : (list out : List ℕ) → is_variant (get_or list 0 0) ≡ false
+    → (21 ≡ (run_list list (length out)).code) × (0 ≡ length list - (run_list list (length out)).left)
     × (out ≡ written (run_list list (length out)).answers out)
 unfolding run_list stopped written
-list-refused list out is =
-    let n : 0 ≡ length list - length list = omega arith in (
-      rw is (λ i. record { code = 21; place = n i }),
-      rw is refl,
-    )
+list_refused list out is = rw is (refl, omega arith, refl)
 
-pub list-empty : (list out : List ℕ) → length list ≡ 0
-    → (◌≡◌ {A = Stop} (record { code = 21; place = 0 })
-    (record { code = (run_list list (length out)).code; place = length list - (run_list list (length out)).left }))
+pub list_empty : (list out : List ℕ) → None ≡ slice_get list 0
+    → (21 ≡ (run_list list (length out)).code) × (0 ≡ length list - (run_list list (length out)).left)
     × (out ≡ written (run_list list (length out)).answers out)
-list-empty list out h = list-refused list out (no-first list h)
+unfolding is_variant
+list_empty [] out h = list_refused [] out refl
+list_empty (x ∷ list) out h = absurd (none-some x h)
 
-pub list-run : (list : List ℕ) (room : ℕ) (variant : SparkleVariant) (first : SparkleEngine) → is_variant (get_or list 0 0) ≡ true
+pub list_run : (list : List ℕ) (room : ℕ) (variant : SparkleVariant) (first : SparkleEngine) → is_variant (get_or list 0 0) ≡ true
     → variant ≡ variant_of (get_or list 0 0) → first ≡ new_engine variant
     → run_calls (length list) (drop 1 list) first room ≡ run_list list room
 unfolding run_list
-list-run list room variant first is var new = rw (is, ← var, ← new) refl
+list_run list room variant first is var new = rw (is, ← var, ← new) refl
 
 -- ---- the run as a whole
 

@@ -1,8 +1,7 @@
 -- A call list in bytes, and the answers to it in bytes (docs/HOST.md).
-use Rattle.std.specs.Prelude.{ℕ, zero, suc, ◌+◌, ◌-◌, Bool, false, cond, List, [], ◌∷◌, ◌++◌, length, take, drop, get_or, ltb, leb, eqb}
+use Rattle.std.specs.Prelude.{◌≡◌, ℕ, zero, suc, ◌+◌, ◌-◌, Bool, false, cond, Option, None, Some, List, [], ◌∷◌, ◌++◌, length, take, drop, get_or, ltb, leb, eqb}
 use Rattle.tc_aead_cipher.specs.declared.phase.Direction.TheVariants.{Encrypt, Decrypt}
 use Rattle.tc_sparkle_aead.specs.declared.engine.SparkleEngine.{SparkleEngine}
-use Rattle.tc_sparkle_aead.specs.declared.message.Mac.{Mac}
 use Rattle.tc_sparkle_aead.specs.Engine.{new_engine}
 use Rattle.tc_sparkle_aead.specs.Calls.{mac_of}
 use Rattle.tc_aead_cipher.specs.declared.call.CallKind.{CallKind}
@@ -11,14 +10,19 @@ use Rattle.tc_aead_cipher.specs.Call.{Call, call_of}
 use Rattle.tc_aead_cipher.specs.Reply.{reply_of}
 use Rattle.tc_aead_cipher.specs.declared.reply.Reply.{Reply}
 use Rattle.tc_sparkle_aead.specs.Sheet.{step, line}
-use Rattle.host.specs.declared.call.Head.{Head}
-use Rattle.host.specs.declared.call.Read.{Read}
-use Rattle.host.specs.declared.call.Read.TheVariants.{Malformed, Call as ReadCall}
 use Rattle.host.specs.Bytes.{number_at, number}
 
 -- ---- A call in a list
 
--- The head of the call in front of the rest of a list: its kind, its number, and the lengths of its three runs of bytes.
+-- The head of a call: its kind, its number, and the lengths of its three runs of bytes.
+pub record Head : Type 0 where
+  pub kind : ℕ
+  pub number : ℕ
+  pub first : ℕ
+  pub second : ℕ
+  pub third : ℕ
+
+-- The head of the call in front of the rest of a list.
 unfoldable pub head_of : List ℕ → Head
 head_of rest =
     record {
@@ -40,8 +44,8 @@ well_formed rest =
     (cond (ltb (head_of rest).kind 1) false
     (cond (ltb 9 (head_of rest).kind) false (leb (call_length (head_of rest)) (length rest))))
 
-unfoldable pub read_of : List ℕ → Read
-read_of rest = cond (well_formed rest) (ReadCall (head_of rest)) Malformed
+unfoldable pub read_of : List ℕ → Option Head
+read_of rest = cond (well_formed rest) (Some (head_of rest)) None
 
 -- The runs of bytes.
 unfoldable pub first_run : Head → List ℕ → List ℕ
@@ -64,10 +68,25 @@ kind_at n =
     (cond (eqb n 6) CallKind.Reset
     (cond (eqb n 7) CallKind.Mac (cond (eqb n 8) CallKind.Update CallKind.Output)))))))
 
+-- The kind of a number, or none.
+unfoldable pub kind_read : ℕ → Option CallKind
+kind_read n = cond (ltb n 1) None (cond (ltb 9 n) None (Some (kind_at n)))
+
 -- The call of a head and its runs: the third is a start's header, and the output of a data call and of an end.
 unfoldable pub call_in : Head → List ℕ → Call
 call_in h runs =
     call_of (kind_at h.kind) h.number (first_run h runs) (second_run h runs) (third_run h runs) (third_run h runs)
+
+-- A kind, a number and three runs of bytes are those of the call in front of the rest of a list, and some bytes are those
+-- behind it.
+pub record IsRead (rest : List ℕ) (kind : CallKind) (number : ℕ) (first second third behind : List ℕ) : Type 0 where
+  pub found : Some (head_of rest) ≡ read_of rest
+  pub kind_is : kind ≡ kind_at (head_of rest).kind
+  pub number_is : number ≡ (head_of rest).number
+  pub first_is : first ≡ first_run (head_of rest) (drop 33 rest)
+  pub second_is : second ≡ second_run (head_of rest) (drop 33 rest)
+  pub third_is : third ≡ third_run (head_of rest) (drop 33 rest)
+  pub behind_is : behind ≡ drop (call_length (head_of rest)) rest
 
 -- ---- An answer
 
@@ -105,32 +124,6 @@ shown_by CallKind.Output third = 0
 
 unfoldable pub shown_length : Head → ℕ
 shown_length h = shown_by (kind_at h.kind) h.third
-
--- How many bytes of the third run are lent as an output.
-abbrev pub lent_by : CallKind → (third : ℕ) → ℕ
-lent_by (CallKind.Init d) third = 0
-lent_by CallKind.Aad third = 0
-lent_by CallKind.Data third = third
-lent_by CallKind.Final third = third
-lent_by CallKind.Reset third = 0
-lent_by CallKind.Mac third = 0
-lent_by CallKind.Update third = 0
-lent_by CallKind.Output third = 0
-
--- The part of the third run that is lent as an output.
-abbrev pub lent_run : CallKind → Head → List ℕ → List ℕ
-lent_run kind h runs = take (lent_by kind h.third) (drop (h.first + h.second) runs)
-
--- What stands behind the head of an answer, `behind`, once a tag's array is written there, where it is asked for.
-abbrev pub tagged : CallKind → Mac → (behind : List ℕ) → List ℕ
-tagged (CallKind.Init d) m behind = behind
-tagged CallKind.Aad m behind = behind
-tagged CallKind.Data m behind = behind
-tagged CallKind.Final m behind = behind
-tagged CallKind.Reset m behind = behind
-tagged CallKind.Mac m behind = m.bytes ++ drop 32 behind
-tagged CallKind.Update m behind = behind
-tagged CallKind.Output m behind = behind
 
 unfoldable pub flag : Bool → ℕ
 flag b = cond b 1 0

@@ -1,216 +1,105 @@
-// A call of a list (docs/HOST.md): its head, and its answer.
-ghost use Rattle.std.specs.Prelude.{◌≡◌, ◌++◌, ◌+◌, ◌≤◌, length, drop, leb};
-ghost use Rattle.std.proofs.Math.Seq.{paste};
+// A call of a list (docs/HOST.md): how it is read, and its answer.
+ghost use Rattle.std.specs.Prelude.{◌≡◌, ◌+◌, length, MatchOption};
 ghost use Rattle.tc_sparkle_aead.specs.Sheet.{step};
-ghost use Rattle.host.specs.CallList.{head_of, read_of, kind_at, call_in, shown_by, shown_length, lent_by, lent_run, tagged, flag, answer_head, answer_of};
+ghost use Rattle.dispatch.specs.Called.{call_made};
+ghost use Rattle.host.specs.CallList.{kind_read, read_of, IsRead, shown_by, answer_head, answer_of};
 
 use super::bytes;
+use dispatch::Call;
 use tc_aead_cipher::call::CallKind;
 use tc_aead_cipher::phase::Direction;
 use tc_aead_cipher::reply::Reply;
 use tc_sparkle_aead::aead_cipher;
 use tc_sparkle_aead::engine::SparkleEngine;
-use tc_sparkle_aead::message::Mac;
 
-// The head of a call: its kind, its number, and the lengths of its three runs of bytes.
-#[derive(Clone, Copy)]
-pub struct Head {
-    pub(crate) kind: u8,
-    pub(crate) number: usize,
-    pub(crate) first: usize,
-    pub(crate) second: usize,
-    pub(crate) third: usize,
-}
+// The bytes of a call's head, and of an answer's.
+const CALL_HEAD: usize = 33;
 
-// What stands in front of the rest of a list.
-#[derive(Clone, Copy)]
-pub enum Read {
-    Malformed,
-    Call(Head),
-}
+pub(crate) const ANSWER_HEAD: usize = 34;
 
-fn read_head(rest: &[u8]) -> Head
-    requires { 33 ≤ length rest.now }
-    ensures { result ≡ head_of rest.now }
-{
-    Head {
-        kind: rest[0],
-        number: bytes::number_at(rest, 1),
-        first: bytes::number_at(rest, 9),
-        second: bytes::number_at(rest, 17),
-        third: bytes::number_at(rest, 25),
-    }
-}
-
-// Whether the runs of a call have no more than n bytes together.
-fn runs_fit(h: Head, n: usize) -> bool
-    ensures { result ≡ leb (h.first + h.second + h.third) n }
-{
-    if n < h.first {
-        return false;
-    }
-    if n - h.first < h.second {
-        return false;
-    }
-    h.third <= n - h.first - h.second
-}
-
-pub(crate) fn read_call(rest: &[u8]) -> Read
-    ensures { result ≡ read_of rest.now }
-{
-    if rest.len() < 33 {
-        return Read::Malformed;
-    }
-    let h = read_head(rest);
-    if h.kind < 1 {
-        return Read::Malformed;
-    }
-    if 9 < h.kind {
-        return Read::Malformed;
-    }
-    if runs_fit(h, rest.len() - 33) {
-        Read::Call(h)
-    } else {
-        Read::Malformed
-    }
-}
-
-// The kind of call that a number means; any number but 1 to 8, an output_len.
-fn kind_at(n: u8) -> CallKind
-    ensures { result ≡ kind_at n }
+// The kind of call that a number means. It is no TryFrom: the kind is a type of another crate, and the
+// numbers are those of docs/HOST.md.
+#[tactic(auto, unfolding(crate::specs::CallList::kind_read, crate::specs::CallList::kind_at))]
+fn kind_read(n: u8) -> Option<CallKind>
+    ensures { result ≡ kind_read n }
 {
     match n {
-        1 => CallKind::Init(Direction::Encrypt),
-        2 => CallKind::Init(Direction::Decrypt),
-        3 => CallKind::Aad,
-        4 => CallKind::Data,
-        5 => CallKind::Final,
-        6 => CallKind::Reset,
-        7 => CallKind::Mac,
-        8 => CallKind::Update,
-        _ => CallKind::Output,
+        1 => Some(CallKind::Init(Direction::Encrypt)),
+        2 => Some(CallKind::Init(Direction::Decrypt)),
+        3 => Some(CallKind::Aad),
+        4 => Some(CallKind::Data),
+        5 => Some(CallKind::Final),
+        6 => Some(CallKind::Reset),
+        7 => Some(CallKind::Mac),
+        8 => Some(CallKind::Update),
+        9 => Some(CallKind::Output),
+        _ => None,
     }
 }
 
-fn shown_by(kind: CallKind, third: usize) -> usize
-    ensures { result ≡ shown_by kind third }
+// The call in front of the rest of a list, and what stands behind it; none where it is malformed.
+pub(crate) fn read_call(rest: &[u8]) -> Option<(Call<'_>, &[u8])>
+    ensures { MatchOption result (None ≡ read_of rest.now) (λ r. IsRead rest.now r.0.kind r.0.number r.0.first.now r.0.second.now r.0.third.now r.1.now) }
 {
-    match kind {
-        CallKind::Init(_) => 0,
-        CallKind::Aad => 0,
-        CallKind::Data => third,
-        CallKind::Final => third,
-        CallKind::Reset => 0,
-        CallKind::Mac => 32,
-        CallKind::Update => 0,
-        CallKind::Output => 0,
-    }
+    let (head, runs) = rest.split_first_chunk::<CALL_HEAD>()?;
+    let kind = kind_read(head[0])?;
+    let (first, behind) = runs.split_at_checked(bytes::number_at(head, 9))?;
+    let (second, behind) = behind.split_at_checked(bytes::number_at(head, 17))?;
+    let (third, behind) = behind.split_at_checked(bytes::number_at(head, 25))?;
+    let call = Call {
+        kind,
+        number: bytes::number_at(head, 1),
+        first,
+        second,
+        third,
+    };
+    Some((call, behind))
 }
 
 // How many bytes stand behind the head of a call's answer.
-pub(crate) fn shown_len(h: Head) -> usize
-    ensures { result ≡ shown_length h }
+pub(crate) fn shown_len(call: Call<'_>) -> usize
+    ensures { result ≡ shown_by call.entry.kind (length call.entry.third.now) }
 {
-    shown_by(kind_at(h.kind), h.third)
-}
-
-// How many bytes of the third run are lent as an output.
-fn lent_len(kind: CallKind, third: usize) -> usize
-    ensures { result ≡ lent_by kind third }
-{
-    match kind {
-        CallKind::Init(_) => 0,
-        CallKind::Aad => 0,
-        CallKind::Data => third,
-        CallKind::Final => third,
-        CallKind::Reset => 0,
-        CallKind::Mac => 0,
-        CallKind::Update => 0,
-        CallKind::Output => 0,
+    match call.kind {
+        CallKind::Data | CallKind::Final => call.third.len(),
+        CallKind::Mac => 32,
+        _ => 0,
     }
 }
 
-// Writes what a call is lent as an output behind the head of its answer.
-fn put_lent(h: Head, runs: &[u8], out: &mut [u8])
-    requires { (h.first + h.second + h.third ≤ length runs.now) × (34 + shown_length h ≤ length out.old) }
-    ensures { out.new ≡ paste out.old 34 (lent_run (kind_at h.kind) h runs.now) (lent_by (kind_at h.kind) h.third) }
+// The head of an answer: the reply, whether a tag can be read, the steps, and how many bytes stand behind.
+// It is a slice of 34 bytes and no array: where an array is split off, that there are too few bytes would be
+// a case of its own.
+fn put_head(head: &mut [u8], r: Reply, readable: bool, steps: u64, n: usize)
+    requires { length head.old ≡ 34 }
+    ensures { head.new ≡ answer_head r readable steps n }
 {
-    let n = lent_len(kind_at(h.kind), h.third);
-    let from = h.first + h.second;
-    let to = from + n;
-    bytes::put(out, 34, &runs[from..to]);
+    head[0] = r.number;
+    head[1] = u8::from(readable);
+    head[2..10].copy_from_slice(&bytes::number_bytes(r.first as u64));
+    head[10..18].copy_from_slice(&bytes::number_bytes(r.second as u64));
+    head[18..26].copy_from_slice(&bytes::number_bytes(steps));
+    head[26..34].copy_from_slice(&bytes::number_bytes(n as u64));
 }
 
-fn readable(m: Mac) -> u8
-    ensures { result ≡ flag m.readable }
+// Makes a call and writes its answer: the head, and behind it the output that the call is lent, or the
+// tag's array.
+pub(crate) fn answer(e: SparkleEngine, call: Call<'_>, out: &mut [u8]) -> SparkleEngine
+    requires { length out.old ≡ 34 + shown_by call.kind (length call.third.now) }
+    ensures value { result ≡ (step e (call_made call.entry call.entry.third.now)).engine }
+    ensures out_after { out.new ≡ answer_of e (call_made call.entry call.entry.third.now) }
 {
-    if m.readable { 1 } else { 0 }
-}
-
-// The head of an answer; m and steps are those of the engine after the call, n is the length of what
-// stands behind.
-fn put_head(out: &mut [u8], r: Reply, m: Mac, steps: u64, n: usize)
-    requires { 34 ≤ length out.old }
-    ensures { out.new ≡ answer_head r m.readable steps n ++ drop 34 out.old }
-{
-    let flags = [r.number, readable(m)];
-    bytes::put(out, 0, &flags);
-    bytes::put_number(out, 2, r.first as u64);
-    bytes::put_number(out, 10, r.second as u64);
-    bytes::put_number(out, 18, steps);
-    bytes::put_number(out, 26, n as u64);
-}
-
-// Writes a tag's array behind the head of an answer.
-fn put_tag(out: &mut [u8], tag: [u8; 32])
-    requires { 66 ≤ length out.old }
-    ensures { drop 34 out.new ≡ tag ++ drop 66 out.old }
-{
-    bytes::put(out, 34, &tag);
-}
-
-// The same, where the call asks for the tag.
-fn put_asked(kind: CallKind, m: Mac, out: &mut [u8])
-    requires { 34 + shown_by kind 0 ≤ length out.old }
-    ensures { drop 34 out.new ≡ tagged kind m (drop 34 out.old) }
-{
-    match kind {
-        CallKind::Mac => {
-            let tag = m.bytes;
-            put_tag(out, tag);
-        }
-        _ => {}
+    let (head, shown) = out.split_at_mut(ANSWER_HEAD);
+    if let CallKind::Data | CallKind::Final = call.kind {
+        shown.copy_from_slice(call.third);
     }
-}
-
-// Makes a call and writes its answer to the front of `out`. What is lent as an output stands behind
-// the head.
-pub(crate) fn answer(e: SparkleEngine, h: Head, runs: &[u8], out: &mut [u8]) -> SparkleEngine
-    requires { (h.first + h.second + h.third ≤ length runs.now) × (34 + shown_length h ≤ length out.old) }
-    ensures value { result ≡ (step e (call_in h runs.now)).engine }
-    ensures out_after { out.new ≡ answer_of e (call_in h runs.now) ++ drop (34 + shown_length h) out.old }
-{
-    put_lent(h, runs, out);
-    let kind = kind_at(h.kind);
-    let shown = shown_by(kind, h.third);
-    let n = lent_len(kind, h.third);
-    let a = h.first;
-    let b = a + h.second;
-    let c = b + h.third;
-    let end = 34 + n;
-    let d = dispatch::call(
-        e,
-        kind,
-        h.number,
-        &runs[0..a],
-        &runs[a..b],
-        &runs[b..c],
-        &mut out[34..end],
-    );
-    let r = d.reply;
-    let next = d.engine;
-    let m = aead_cipher::mac(next);
-    put_asked(kind, m, out);
-    put_head(out, r, m, aead_cipher::steps(next), shown);
-    next
+    let called = call.make(e, shown);
+    let tag = aead_cipher::mac(called.engine);
+    if let CallKind::Mac = call.kind {
+        shown.copy_from_slice(&tag.bytes);
+    }
+    let steps = aead_cipher::steps(called.engine);
+    let reply = Reply::from(called.answer);
+    put_head(head, reply, tag.readable, steps, shown.len());
+    called.engine
 }

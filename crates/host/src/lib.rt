@@ -16,7 +16,14 @@ pub fn schwaemm_run(list: &[u8], answers: &mut [u8], place: &mut usize) -> u8
     ensures place_after { place.new ≡ length list.now - (run_list list.now (length answers.old)).left }
     ensures answers_after { answers.new ≡ written (run_list list.now (length answers.old)).answers answers.old }
 {
-    let s = run::run_list(list, answers);
-    *place = s.place;
-    s.code
+    match run::run_list(list, answers) {
+        Ok(()) => {
+            *place = list.len();
+            0
+        }
+        Err(stop) => {
+            *place = stop.place;
+            stop.reason.into()
+        }
+    }
 }

@@ -1,5 +1,5 @@
 // The archive libhost.a: exports the run of a call list by the C calling convention (docs/HOST.md).
-// What it does, `crates/host` says and proves.
+// What it does, `crates/host` says and proves, which is a library for Rattle's programs too.
 #![tactic(auto)]
 
 ghost use Rattle.std.specs.Prelude.{◌≡◌, ◌-◌, length};

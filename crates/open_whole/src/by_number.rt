@@ -3,10 +3,13 @@ ghost use Rattle.std.specs.Prelude.{◌≡◌};
 ghost use Rattle.open_whole.specs.OpenWhole.{open_whole_of};
 
 use tc_aead_cipher::reply::Reply;
-use tc_aead_cipher::variant;
+use tc_aead_cipher::variant::SparkleVariant;
 use tc_sparkle_aead::verify;
 
 // Opens a packet; 23 where no variant has the number.
+// `packet.rt` of `crates/packet` has the same match. A function
+// for both would take the call as a closure, and be no shorter.
+#[tactic(auto, unfolding(crate::specs::OpenWhole::open_whole_of))]
 pub(crate) fn open_whole(
     v: u8,
     key: &[u8],
@@ -18,13 +21,8 @@ pub(crate) fn open_whole(
     ensures value { result ≡ (open_whole_of v key.now nonce.now header.now packet.now out.old).reply }
     ensures out_after { out.new ≡ (open_whole_of v key.now nonce.now header.now packet.now out.old).out }
 {
-    if !variant::is_variant(v) {
-        return Reply {
-            number: 23,
-            values: 0,
-            first: 0,
-            second: 0,
-        };
+    match SparkleVariant::try_from(v) {
+        Ok(variant) => verify::open_whole(variant, key, nonce, header, packet, out).into(),
+        Err(unknown) => unknown.into(),
     }
-    verify::open_whole(variant::variant_of(v), key, nonce, header, packet, out)
 }

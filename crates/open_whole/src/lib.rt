@@ -1,6 +1,7 @@
 // The host boundary: a packet that is opened whole or not (document 02, 2026-03). The export has the C
-// calling convention and takes numbers and byte slices (docs/HOST.md); no engine crosses. It has an archive
-// of its own: in `crates/packet` the work on a packet has one caller, which keeps it fast.
+// calling convention and takes numbers and byte slices (docs/HOST.md), side by side, as C hands them over;
+// no engine crosses. It has an archive of its own: in that of `crates/packet` the parts of a packet have one
+// caller each and are compiled into it (docs/PERFORMANCE.md).
 #![tactic(auto)]
 
 ghost use Rattle.std.specs.Prelude.{◌≡◌};

@@ -1,5 +1,6 @@
 // The host boundary: whole packets at once. The exports have the C calling convention and take
-// numbers and byte slices (docs/HOST.md); no engine crosses. Call lists are `crates/host`.
+// numbers and byte slices (docs/HOST.md), side by side, as C hands them over; no engine crosses. Call lists
+// are `crates/host`.
 #![tactic(auto)]
 
 ghost use Rattle.std.specs.Prelude.{◌≡◌};
@@ -41,7 +42,7 @@ pub extern "C" fn schwaemm_seal(
     sealed.number
 }
 
-// Opens a packet: the message goes to the output.
+// Opens a packet: the message goes to the output. C has a name for each direction (docs/HOST.md).
 #[unsafe(no_mangle)]
 pub extern "C" fn schwaemm_open(
     variant: u8,

@@ -1,106 +1,137 @@
 // The answers to a list, held to those that it has to have, call by call. An answer is a head of 34
 // bytes, and as many bytes more as the last eight of the head say (docs/HOST.md).
-ghost use Rattle.std.specs.Prelude.{◌≡◌};
-ghost use Rattle.replay.specs.Answers.{answer_length};
+ghost use Rattle.std.specs.Prelude.{◌≡◌, ◌<◌, ◌≤◌, IfSome, MatchOption, length, drop};
+ghost use Rattle.replay.specs.Answers.{answer_length, bytes_behind};
 
-use super::{record, say};
+use super::error::ReplayError;
+use super::record;
 use std::io;
 
-// How many answers there are, how many of them differ, and whether the last one is whole.
-#[derive(Clone, Copy)]
-pub struct Compared {
+// How many answers there are, and how many of them differ.
+#[derive(Clone, Copy, Default)]
+pub(crate) struct Compared {
     pub(crate) calls: u64,
     pub(crate) differences: u64,
-    pub(crate) whole: bool,
 }
 
-// The bytes of the answer in front of the rest; 0 where no whole answer stands there.
-fn answer_len(rest: &[u8]) -> usize
-    ensures { result ≡ answer_length rest.now }
-{
-    if rest.len() < 34 {
-        return 0;
+// The bytes of an answer's head.
+const HEAD: usize = 34;
+
+// An answer: what its head says, and the bytes behind it. The number, and 1 or 0 for whether a tag can be
+// read, stay the bytes that they are in docs/HOST.md: what differs is said as it stands there.
+#[derive(Clone, Copy)]
+struct Answer<'a> {
+    number: u8,
+    readable: u8,
+    first: u64,
+    second: u64,
+    steps: u64,
+    length: u64,
+    bytes: &'a [u8],
+}
+
+impl<'a> Answer<'a> {
+    // Nothing where the head is not whole.
+    fn new(answer: &'a [u8]) -> Option<Answer<'a>>
+        ensures { MatchOption result (length answer.now < 34) (λ a. (34 ≤ length answer.now) × (a.length ≡ bytes_behind answer.now) × (a.bytes.now ≡ drop 34 answer.now)) }
+    {
+        let (bytes, rest) = answer.split_first_chunk::<2>()?;
+        let (first, rest) = rest.split_first_chunk::<8>()?;
+        let (second, rest) = rest.split_first_chunk::<8>()?;
+        let (steps, rest) = rest.split_first_chunk::<8>()?;
+        let (length, rest) = rest.split_first_chunk::<8>()?;
+        Some(Answer {
+            number: bytes[0],
+            readable: bytes[1],
+            first: record::number(*first),
+            second: record::number(*second),
+            steps: record::number(*steps),
+            length: record::number(*length),
+            bytes: rest,
+        })
     }
-    let n = record::number(record::part(rest, 26, 8));
-    if n <= rest.len() - 34 { 34 + n } else { 0 }
 }
 
-// Says a number of two answers, of n bytes, where it differs.
-fn say_number(
-    rt: &impl Print,
-    name: &[u8],
-    got: &[u8],
-    expected: &[u8],
-    at: usize,
-    n: usize,
-) -> io::Result<()> {
-    let a = record::number(record::part(got, at, n));
-    let b = record::number(record::part(expected, at, n));
-    if a != b {
-        say::number(rt, name, a as u64)?;
-        say::number(rt, b", expected ", b as u64)?;
+// The bytes of the answer in front of the rest, where a whole one stands there.
+#[tactic(auto, using(crate::proofs::AnswerLaws::answer_none, crate::proofs::AnswerLaws::answer_whole, crate::proofs::AnswerLaws::answer_cut))]
+fn answer_len(rest: &[u8]) -> Option<usize>
+    ensures value { result ≡ answer_length rest.now }
+    ensures head { IfSome result (λ n. 34 ≤ n) }
+{
+    let answer = Answer::new(rest)?;
+    let n = answer.length as usize;
+    if n <= answer.bytes.len() {
+        Some(HEAD + n)
+    } else {
+        None
+    }
+}
+
+// Says a number of two answers where it differs.
+fn say_number(rt: &impl Print, name: &str, got: u64, expected: u64) -> io::Result<()> {
+    if got != expected {
+        print!(rt; ": {name} {got}, expected {expected}")?;
     }
     Ok(())
 }
 
 // Says what differs in two answers.
-fn say_difference(rt: &impl Print, got: &[u8], expected: &[u8]) -> io::Result<()> {
-    say_number(rt, b": number ", got, expected, 0, 1)?;
-    say_number(rt, b": tag readable ", got, expected, 1, 1)?;
-    say_number(rt, b": count or first value ", got, expected, 2, 8)?;
-    say_number(rt, b": second value ", got, expected, 10, 8)?;
-    say_number(rt, b": steps ", got, expected, 18, 8)?;
-    say_number(rt, b": length ", got, expected, 26, 8)?;
-    if !record::same(record::rest(got, 34), record::rest(expected, 34)) {
-        say::text(rt, b": the bytes differ")?;
+fn say_difference(rt: &impl Print, got: &Answer<'_>, expected: &Answer<'_>) -> io::Result<()> {
+    say_number(rt, "number", got.number as u64, expected.number as u64)?;
+    say_number(
+        rt,
+        "tag readable",
+        got.readable as u64,
+        expected.readable as u64,
+    )?;
+    say_number(rt, "count or first value", got.first, expected.first)?;
+    say_number(rt, "second value", got.second, expected.second)?;
+    say_number(rt, "steps", got.steps, expected.steps)?;
+    say_number(rt, "length", got.length, expected.length)?;
+    if got.bytes != expected.bytes {
+        print!(rt; ": the bytes differ")?;
     }
-    say::text(rt, b"\n")
+    println!(rt; "")
 }
 
-// Says where the answer to a call is another one, and answers how many are: 0 or 1.
-fn answer(rt: &impl Print, list: u64, call: u64, got: &[u8], expected: &[u8]) -> io::Result<u64> {
-    if record::same(got, expected) {
-        return Ok(0);
+// Says where the answer to a call is another one, and answers whether it is. Printer and numbers stand side
+// by side: a struct of them would say no more.
+fn differs(
+    rt: &impl Print,
+    list: u64,
+    call: u64,
+    got: &[u8],
+    expected: &[u8],
+) -> Result<bool, ReplayError> {
+    if got == expected {
+        return Ok(false);
     }
-    say::number(rt, b"list ", list)?;
-    say::number(rt, b" call ", call)?;
-    say_difference(rt, got, expected)?;
-    Ok(1)
+    let got = Answer::new(got).ok_or(ReplayError::Malformed)?;
+    let expected = Answer::new(expected).ok_or(ReplayError::Malformed)?;
+    print!(rt; "list {list} call {call}")?;
+    say_difference(rt, &got, &expected)?;
+    Ok(true)
 }
 
-// Compares the answers to a list, each with the one that it has to be.
+// Compares the answers to a list, each with the one that it has to be. There are no fewer bytes of
+// the first than of the others.
 pub(crate) fn answers(
     rt: &impl Print,
     list: u64,
-    got: &[u8],
-    expected: &[u8],
-) -> io::Result<Compared> {
-    let mut at = 0;
-    let mut calls: u64 = 0;
-    let mut differences: u64 = 0;
-    while at < expected.len() {
-        let n = answer_len(record::rest(expected, at));
-        if n == 0 {
-            return Ok(Compared {
-                calls,
-                differences,
-                whole: false,
-            });
+    mut got: &[u8],
+    mut expected: &[u8],
+) -> Result<Compared, ReplayError> {
+    let mut compared = Compared::default();
+    while !expected.is_empty() {
+        let n = answer_len(expected).ok_or(ReplayError::Malformed)?;
+        let (answer, got_rest) = got.split_at_checked(n).ok_or(ReplayError::Malformed)?;
+        let (right, expected_rest) = expected.split_at_checked(n).ok_or(ReplayError::Malformed)?;
+        compared.calls = compared.calls.wrapping_add(1);
+        if differs(rt, list, compared.calls, answer, right)? {
+            compared.differences = compared.differences.wrapping_add(1);
         }
-        calls = std::num::wrapping_add_u64(calls, 1);
-        let differs = answer(
-            rt,
-            list,
-            calls,
-            record::part(got, at, n),
-            record::part(expected, at, n),
-        )?;
-        differences = std::num::wrapping_add_u64(differences, differs);
-        at += n;
+        got = got_rest;
+        expected = expected_rest;
     }
-    Ok(Compared {
-        calls,
-        differences,
-        whole: true,
-    })
+    Ok(compared)
 }

@@ -3,89 +3,69 @@
 // AeadParamsRef. The file stdout holds the printed block.
 #![tactic(auto)]
 
-mod lent;
-
-use entry_calls::aead_params_ref;
+use entry_calls::aead_params_ref::AeadParamsRef;
+use entry_calls::{aead_cipher, aead_params_ref};
 use sheet_text::text;
-use sheet_text::text::Text;
 use std::io;
 use tc_aead_cipher::call::CallKind;
 use tc_aead_cipher::phase::Direction;
-use tc_aead_cipher::reply;
-use tc_aead_cipher::reply::Reply;
+use tc_aead_cipher::refusal;
+use tc_aead_cipher::refusal::Refusal;
 use tc_aead_cipher::variant::SparkleVariant;
 use tc_sparkle_aead::engine;
-use tc_sparkle_aead::engine::{Done, SparkleEngine};
+use tc_sparkle_aead::engine::SparkleEngine;
 
-// The first n bytes, or all where there are fewer.
-fn first(s: &[u8], n: usize) -> &[u8] {
-    if n <= s.len() { &s[0..n] } else { s }
-}
-
-fn show(rt: &impl Print, t: Text) -> io::Result<()> {
-    let bytes = t.bytes;
-    rt.write_all(first(&bytes, t.len))
-}
-
-// The line of a call, from its answer and the engine afterwards.
-fn show_line(rt: &impl Print, kind: CallKind, answer: Reply, e: SparkleEngine) -> io::Result<()> {
-    let m = lent::mac(e);
-    show(rt, text::line(kind, answer, lent::steps(e), m.readable))
-}
-
-fn shown(rt: &impl Print, kind: CallKind, d: Done) -> io::Result<SparkleEngine> {
-    let r = d.answer;
-    let e = d.engine;
-    show_line(rt, kind, reply::reply_of(r), e)?;
-    Ok(e)
+// Writes the line of a call, from its answer and the engine afterwards.
+fn show(
+    rt: &impl Print,
+    e: &SparkleEngine,
+    kind: CallKind,
+    answer: Result<usize, Refusal>,
+) -> io::Result<()> {
+    let steps = aead_cipher::steps(e);
+    let tag = aead_cipher::mac(e);
+    rt.write_all(text::line(kind, answer, steps, tag.readable).as_bytes())
 }
 
 // A sealing start without initial header.
-fn start(rt: &impl Print, e: SparkleEngine) -> io::Result<SparkleEngine> {
-    let zeros = [0u8; 16];
-    let s = aead_params_ref::init_owned(e, Direction::Encrypt, &zeros, &zeros, 16, b"");
-    let r = s.answer;
-    let next = s.engine;
-    show_line(
-        rt,
-        CallKind::Init(Direction::Encrypt),
-        reply::start_reply_of(r),
-        next,
-    )?;
-    Ok(next)
+fn init(rt: &impl Print, e: &mut SparkleEngine) -> io::Result<()> {
+    let zeros = [0; 16];
+    let params = AeadParamsRef::new(&zeros, &zeros, 16, b"");
+    let answer = aead_params_ref::init_with(e, Direction::Encrypt, params);
+    let kind = CallKind::Init(Direction::Encrypt);
+    show(rt, e, kind, refusal::start_answer(answer))
 }
 
-fn header(rt: &impl Print, e: SparkleEngine, input: &[u8]) -> io::Result<SparkleEngine> {
-    shown(rt, CallKind::Aad, lent::process_aad_bytes(e, input))
+fn process_aad_bytes(rt: &impl Print, e: &mut SparkleEngine, input: &[u8]) -> io::Result<()> {
+    let answer = aead_cipher::process_aad_bytes(e, input);
+    show(rt, e, CallKind::Aad, refusal::call_answer(answer))
 }
 
-fn data(
+fn process_bytes(
     rt: &impl Print,
-    e: SparkleEngine,
+    e: &mut SparkleEngine,
     input: &[u8],
     output: &mut [u8],
-) -> io::Result<SparkleEngine> {
-    shown(rt, CallKind::Data, lent::process_bytes(e, input, output))
+) -> io::Result<()> {
+    let answer = aead_cipher::process_bytes(e, input, output);
+    show(rt, e, CallKind::Data, refusal::call_answer(answer))
 }
 
-fn end(rt: &impl Print, e: SparkleEngine, output: &mut [u8]) -> io::Result<SparkleEngine> {
-    shown(rt, CallKind::Final, lent::do_final(e, output))
+fn do_final(rt: &impl Print, e: &mut SparkleEngine, output: &mut [u8]) -> io::Result<()> {
+    let answer = aead_cipher::do_final(e, output);
+    show(rt, e, CallKind::Final, refusal::call_answer(answer))
 }
 
 fn main(rt: HostRuntime) -> io::Result<()> {
     let variant = SparkleVariant::Schwaemm128_128;
-    show(&rt, text::title(variant))?;
-    let mut output = [0u8; 32];
-    let mut short = [0u8; 16];
-    let mut enough = [0u8; 17];
-    let mut none = [0u8; 0];
-    let e = start(&rt, engine::new(variant))?;
-    let e = header(&rt, e, &[0u8; 20])?;
-    let e = data(&rt, e, &[0u8; 33], &mut output)?;
-    let e = header(&rt, e, &[0u8; 1])?;
-    let e = end(&rt, e, &mut short)?;
-    let e = end(&rt, e, &mut enough)?;
-    let e = data(&rt, e, b"", &mut none)?;
-    start(&rt, e)?;
-    Ok(())
+    rt.write_all(text::title(variant).as_bytes())?;
+    let mut e = engine::new(variant);
+    init(&rt, &mut e)?;
+    process_aad_bytes(&rt, &mut e, &[0; 20])?;
+    process_bytes(&rt, &mut e, &[0; 33], &mut [0; 32])?;
+    process_aad_bytes(&rt, &mut e, &[0; 1])?;
+    do_final(&rt, &mut e, &mut [0; 16])?;
+    do_final(&rt, &mut e, &mut [0; 17])?;
+    process_bytes(&rt, &mut e, b"", &mut [])?;
+    init(&rt, &mut e)
 }

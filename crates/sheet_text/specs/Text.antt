@@ -1,17 +1,15 @@
 -- The texts of document 01's sheet ("Worked by hand", the block at its end): a line and the title, as bytes.
-use Rattle.std.specs.Prelude.{ℕ, min, ◌≡◌, Bool, true, false, List, [], ◌∷◌, ◌++◌, length}
+use Rattle.std.specs.Prelude.{ℕ, ◌≡◌, Bool, true, false, List, [], ◌∷◌, ◌++◌, take}
 use Rattle.forms.specs.Bytes.{text}
 use Rattle.forms.specs.Decimal.{decimal}
 use Rattle.tc_aead_cipher.specs.declared.call.CallKind.{CallKind}
 use Rattle.tc_aead_cipher.specs.declared.call.CallKind.TheVariants.{Init, Aad, Data, Final, Reset, Mac, Update, Output}
 use Rattle.tc_aead_cipher.specs.declared.variant.SparkleVariant.{SparkleVariant}
 use Rattle.tc_aead_cipher.specs.Variant.{number}
-use Rattle.tc_sparkle_aead.specs.Message.{in_array}
 use Rattle.tc_aead_cipher.specs.Call.{Call, kind_of}
 use Rattle.tc_aead_cipher.specs.Outcome.{Outcome}
 use Rattle.tc_sparkle_aead.specs.Sheet.{Line, sheet}
 use Rattle.tc_aead_cipher.specs.Outcome.Outcome.{ok, no}
-use Rattle.sheet_text.specs.declared.text.Text.{Text}
 
 -- Numbers, a blank before each.
 abbrev pub spaced : List ℕ → List ℕ
@@ -65,15 +63,11 @@ lines_text (c ∷ calls) (l ∷ ls) = line_text (kind_of c) l ++ lines_text call
 unfoldable pub sheet_text : SparkleVariant → List Call → List ℕ
 sheet_text v calls = title_text v ++ lines_text calls (sheet v calls)
 
--- A text in the array, zeros behind it, and its length. No line and no title is longer than the array (`line-fits`,
--- `title-fits`).
-unfoldable pub text_of : List ℕ → Text
-text_of s = record { bytes = in_array 128 s; len = length s }
-
--- The same for a text that may be too long: what passes the array is left out.
-unfoldable pub cut : List ℕ → Text
-cut s = record { bytes = in_array 128 s; len = min (length s) 128 }
+-- What a text holds of bytes that may be too many: those that pass the array are left out. No line and no title is
+-- longer (`line-fits`, `title-fits`).
+unfoldable pub cut : List ℕ → List ℕ
+cut s = take 128 s
 
 -- r is the text t with s behind it.
-pub record Adds (t : Text) (s : List ℕ) (r : Text) : Type 0 where
-  pub behind : (a : List ℕ) → t ≡ cut a → r ≡ cut (a ++ s)
+pub record Adds (t s r : List ℕ) : Type 0 where
+  pub behind : r ≡ cut (t ++ s)

@@ -1,158 +1,188 @@
 // The texts of document 01's sheet ("Worked by hand"): its title and its lines, each by value.
-ghost use Rattle.std.specs.Prelude.{◌≡◌, [], ◌∷◌, ◌++◌, ◌+◌, ◌<◌};
-ghost use Rattle.tc_aead_cipher.specs.Reply.{outcome_of, refusal_of};
+ghost use Rattle.std.specs.Prelude.{◌≡◌, ◌≤◌, [], ◌++◌, length};
+ghost use Rattle.tc_aead_cipher.specs.Refusals.{numbers_of};
+ghost use Rattle.tc_aead_cipher.specs.Outcome.{answered};
 ghost use Rattle.forms.specs.Bytes.{text};
 ghost use Rattle.forms.specs.Decimal.{decimal};
-ghost use Rattle.sheet_text.specs.Text.{Adds, cut, text_of, spaced, outcome_text, name_text, flag_text, refusal_text, line_text, title_text};
+ghost use Rattle.sheet_text.specs.Text.{Adds, spaced, outcome_text, name_text, flag_text, refusal_text, line_text, title_text};
 
+use itoa::Buffer;
+use std::marker::Model;
 use tc_aead_cipher::call::CallKind;
+use tc_aead_cipher::refusal::Refusal;
 use tc_aead_cipher::reply::Reply;
 use tc_aead_cipher::variant::SparkleVariant;
 
-// A text: its bytes, zeros behind them, and its length.
+// A text of at most 128 bytes, which lie in the value itself with zeros behind them: there is no heap.
+// Its parts are pushed and not written by `write!`, which can fail, as a line can't.
 #[derive(Clone, Copy)]
 pub struct Text {
-    pub bytes: [u8; 128],
-    pub len: usize,
+    bytes: [u8; 128],
+    len: usize,
 }
 
-// No text.
-pub fn empty() -> Text
-    ensures { result ≡ cut [] }
-{
-    Text {
-        bytes: [0; 128],
-        len: 0,
+// Contracts see a text as the list of its bytes.
+impl Model for Text {
+    ghost use Rattle.std.specs.Prelude.{ℕ, ◌≡◌, ◌-◌, ◌≤◌, ◌++◌, List, length, take, drop, replicate};
+    ghost use Rattle.std.proofs.Common.{arith, take-append-drop, length-take-le};
+
+    ghost Value = { List ℕ };
+
+    ghost view = { λ t. take t.len t.bytes };
+
+    ghost invariant = { λ t. (t.len ≤ 128) × (length t.bytes ≡ 128) × (drop t.len t.bytes ≡ replicate (128 - t.len) 0) };
+
+    ghost inverse = { λ s. record { bytes = s ++ replicate (128 - length s) 0; len = length s } };
+
+    ghost inverse_ok = { λ t h.
+        let within : t.len ≤ length t.bytes = omega (arith, h.0, h.1) in
+        let all : take t.len t.bytes ++ replicate (128 - t.len) 0 ≡ t.bytes = (rw (← h.2) (take-append-drop t.len t.bytes)) in
+        let back : take t.len t.bytes ++ replicate (128 - length (take t.len t.bytes)) 0 ≡ t.bytes = (rw (length-take-le t.len t.bytes within) all) in
+        λ i. record {
+          bytes = back i;
+          len = length-take-le t.len t.bytes within i;
+        } };
+}
+
+impl Text {
+    // No text.
+    pub fn new() -> Self
+        ensures { result ≡ [] }
+    {
+        Text {
+            bytes: [0; 128],
+            len: 0,
+        }
     }
-}
 
-// One byte more, while there is room.
-fn push(t: Text, b: u8) -> Text
-    ensures { Adds t (b ∷ []) result }
-{
-    let n = t.len;
-    if n < 128 {
-        let mut bytes = t.bytes;
-        bytes[n] = b;
-        return Text { bytes, len: n + 1 };
+    // The bytes of the text.
+    pub fn as_bytes(&self) -> &[u8]
+        ensures { result.now ≡ self.now }
+    {
+        &self.bytes[..self.len]
     }
-    t
-}
 
-fn append(t: Text, s: &[u8]) -> Text
-    ensures { Adds t s.now result }
-{
-    let mut r = t;
-    let mut i = 0;
-    while i < s.len() {
-        let longer = push(r, s[i]);
-        r = longer;
-        i += 1;
+    // Adds bytes; what passes the array is left out.
+    fn push(&mut self, s: &[u8])
+        ensures { Adds self.old s.now self.new }
+    {
+        let at = self.len;
+        let n = (128 - at).min(s.len());
+        self.bytes[at..at + n].copy_from_slice(&s[..n]);
+        self.len = at + n;
     }
-    r
-}
 
-// The digit of a number below ten.
-fn digit(d: u64) -> u8
-    requires { d < 10 }
-    ensures { result ≡ 48 + d }
-{
-    b'0' + d as u8
-}
-
-// A number in decimal: the digits before the last, then the last.
-fn put_number(t: Text, n: u64) -> Text
-    ensures { Adds t (decimal n) result }
-{
-    if n < 10 {
-        return push(t, digit(n));
+    // Adds a number in decimal.
+    fn push_number(&mut self, n: u64)
+        ensures { Adds self.old (decimal n) self.new }
+    {
+        let mut digits = Buffer::new();
+        self.push(digits.format(n).as_bytes());
     }
-    let most = put_number(t, n / 10);
-    push(most, digit(n % 10))
+
+    // Adds a blank and a number.
+    fn push_spaced(&mut self, n: u64)
+        ensures { Adds self.old (text " " ++ decimal n) self.new }
+    {
+        self.push(b" ");
+        self.push_number(n);
+    }
+
+    // Adds a refusal's number and as many values as its reply has.
+    fn push_refusal(&mut self, x: Refusal)
+        ensures after { Adds self.old (spaced (numbers_of x)) self.new }
+        ensures fits { length (spaced (numbers_of x)) ≤ 46 }
+    {
+        let reply = Reply::from(Err(x));
+        self.push_spaced(reply.number as u64);
+        match reply.values {
+            0 => {}
+            1 => self.push_spaced(reply.first as u64),
+            _ => {
+                self.push_spaced(reply.first as u64);
+                self.push_spaced(reply.second as u64);
+            }
+        }
+    }
+
+    // Adds an answer.
+    fn push_outcome(&mut self, answer: Result<usize, Refusal>)
+        ensures after { Adds self.old (outcome_text (answered answer)) self.new }
+        ensures fits { length (outcome_text (answered answer)) ≤ 50 }
+    {
+        match answer {
+            Ok(n) => {
+                self.push(b"(ok ");
+                self.push_number(n as u64);
+                self.push(b")");
+            }
+            Err(x) => {
+                self.push(b"(no");
+                self.push_refusal(x);
+                self.push(b")");
+            }
+        }
+    }
 }
 
 // A call's name, which for a start does not show the direction.
-fn put_name(t: Text, kind: CallKind) -> Text
-    ensures { Adds t (name_text kind) result }
+fn name(kind: CallKind) -> &'static [u8]
+    ensures { result.now ≡ name_text kind }
 {
     match kind {
-        CallKind::Init(_) => append(t, b"init"),
-        CallKind::Aad => append(t, b"aad"),
-        CallKind::Data => append(t, b"data"),
-        CallKind::Final => append(t, b"final"),
-        CallKind::Reset => append(t, b"reset"),
-        CallKind::Mac => append(t, b"mac"),
-        CallKind::Update => append(t, b"update"),
-        CallKind::Output => append(t, b"output"),
+        CallKind::Init(_) => b"init",
+        CallKind::Aad => b"aad",
+        CallKind::Data => b"data",
+        CallKind::Final => b"final",
+        CallKind::Reset => b"reset",
+        CallKind::Mac => b"mac",
+        CallKind::Update => b"update",
+        CallKind::Output => b"output",
     }
 }
 
-fn put_flag(t: Text, b: bool) -> Text
-    ensures { Adds t (flag_text b) result }
+// A flag is text of a sheet, as the names are, and no number.
+fn flag(b: bool) -> &'static [u8]
+    ensures { result.now ≡ flag_text b }
 {
-    if b { append(t, b"1") } else { append(t, b"0") }
-}
-
-// A blank and a number.
-fn put_spaced(t: Text, n: u64) -> Text
-    ensures { Adds t (text " " ++ decimal n) result }
-{
-    put_number(append(t, b" "), n)
-}
-
-// A refusal's number and as many values as the reply has.
-fn put_refusal(t: Text, reply: Reply) -> Text
-    ensures { Adds t (spaced (refusal_of reply)) result }
-{
-    let values = reply.values;
-    let numbered = put_spaced(t, reply.number as u64);
-    if values == 0 {
-        return numbered;
-    }
-    let valued = put_spaced(numbered, reply.first as u64);
-    if values == 1 {
-        return valued;
-    }
-    put_spaced(valued, reply.second as u64)
-}
-
-fn put_outcome(t: Text, reply: Reply) -> Text
-    ensures { Adds t (outcome_text (outcome_of reply)) result }
-{
-    if reply.number == 0 {
-        let counted = put_number(append(t, b"(ok "), reply.first as u64);
-        return append(counted, b")");
-    }
-    let refused = put_refusal(append(t, b"(no"), reply);
-    append(refused, b")")
+    if b { b"1" } else { b"0" }
 }
 
 // A line that is a refusal alone.
-pub fn refusal(reply: Reply) -> Text
-    ensures { result ≡ text_of (refusal_text (refusal_of reply)) }
+pub fn refusal(x: Refusal) -> Text
+    ensures { result ≡ refusal_text (numbers_of x) }
 {
-    let refused = put_refusal(append(empty(), b"(no"), reply);
-    append(refused, b")\n")
+    let mut refusal = Text::new();
+    refusal.push(b"(no");
+    refusal.push_refusal(x);
+    refusal.push(b")\n");
+    refusal
 }
 
 // A line of a sheet: the call, its answer, the steps, and whether a tag can be read.
-pub fn line(kind: CallKind, reply: Reply, steps: u64, readable: bool) -> Text
-    ensures { result ≡ text_of (line_text kind (record { outcome = outcome_of reply; steps = steps; readable = readable })) }
+pub fn line(kind: CallKind, answer: Result<usize, Refusal>, steps: u64, readable: bool) -> Text
+    ensures { result ≡ line_text kind (record { outcome = answered answer; steps = steps; readable = readable }) }
 {
-    let named = put_name(append(empty(), b"("), kind);
-    let answered = put_outcome(append(named, b" "), reply);
-    let counted = put_number(append(answered, b" (work "), steps);
-    let flagged = put_flag(append(counted, b") (tag "), readable);
-    append(flagged, b"))\n")
+    let mut line = Text::new();
+    line.push(b"(");
+    line.push(name(kind));
+    line.push(b" ");
+    line.push_outcome(answer);
+    line.push(b" (work ");
+    line.push_number(steps);
+    line.push(b") (tag ");
+    line.push(flag(readable));
+    line.push(b"))\n");
+    line
 }
 
 // The first line of a sheet.
 pub fn title(variant: SparkleVariant) -> Text
-    ensures { result ≡ text_of (title_text variant) }
+    ensures { result ≡ title_text variant }
 {
-    let numbered = put_number(
-        append(empty(), b"(sheet (variant "),
-        variant.number() as u64,
-    );
-    append(numbered, b"))\n")
+    let mut title = Text::new();
+    title.push(b"(sheet (variant ");
+    title.push_number(u64::from(u8::from(variant)));
+    title.push(b"))\n");
+    title
 }

@@ -1,12 +1,11 @@
 -- Every word stays below 2^32, part by part; the permutation's words are below 2^32 whatever it is given.
-use Rattle.std.proofs.Common.{◌≡◌, ℕ, zero, suc, ◌+◌, ◌%◌, ◌^◌, ◌<◌, ◌≤◌, List, [], ◌∷◌, ◌++◌, map, length, get_or, take, drop, replicate, sym, refl, ap, ◌∙◌, ap₂, append-nil, mod-lt, mod-eq_of_lt, arith, lit<, lit≤, drop_of_length-le, length-take-le, take_all}
+use Rattle.std.proofs.Common.{◌≡◌, ℕ, zero, suc, ◌+◌, ◌%◌, ◌^◌, ◌<◌, ◌≤◌, List, [], ◌∷◌, ◌++◌, map, length, take, drop, replicate, sym, refl, ap, ◌∙◌, ap₂, append-nil, mod-lt, mod-eq_of_lt, arith, lit<, lit≤, drop_of_length-le, length-take-le, take_all}
 use lib.Bits.{bit_xor, xor_lt}
 use lib.Seq.{take-append-le}
 use Rattle.sparkle.specs.Words.{Words, addw, rotr, ell}
 use Rattle.sparkle.specs.Words.Below.{none, more}
 use Rattle.sparkle.specs.declared.scalar.Branch.{Branch}
 use Rattle.sparkle.specs.Sparkle.{rcon, quarter, arx_box, constants, boxes, xor_xs, xor_ys, xor_each, feistel, linear, step, run, state, sparkle, sparkle_in}
-use Rattle.sparkle.proofs.Tab.{tab, tabbed}
 use Rattle.sparkle.proofs.Rotate.{rotr_lt}
 use Rattle.sparkle.proofs.Below.{below_at, below-append, below-take, below-drop, below_set, below-xors}
 
@@ -122,13 +121,6 @@ unfolding sparkle sparkle_in
 sparkle-in b s k w v h hs e =
     ap (λ (l : List ℕ). l ++ drop (b + b) w)
     (e ∙ ap (run b s k) (sym (state_of_words b (take (b + b) w) (length-take-le (b + b) w h) (below-take (b + b) hs))))
-
--- the same with an array of 16 words written out: the words of the run, and those behind the state
-pub sparkle_of_16 : (b s k : ℕ) (w v : List ℕ) → b + b ≤ 16 → length w ≡ 16 → Words w → length v ≡ b + b → v ≡ run b s k (take (b + b) (tab 16 (λ i. get_or w i 0))) → tab (b + b) (λ i. get_or v i 0) ++ drop (b + b) (tab 16 (λ i. get_or w i 0)) ≡ sparkle_in b s k w
-sparkle_of_16 b s k w v h hw hs hv e =
-    let whole = tabbed 16 w hw in
-    ap₂ (λ (u l : List ℕ). u ++ drop (b + b) l) (tabbed (b + b) v hv) whole
-    ∙ sparkle-in b s k w v (omega arith) hs (e ∙ ap (λ (l : List ℕ). run b s k (take (b + b) l)) whole)
 
 -- the same where the array is the state
 pub sparkle-whole : (b s k : ℕ) (w : List ℕ) → length w ≡ b + b → Words w → run b s k w ≡ sparkle_in b s k w

@@ -30,7 +30,7 @@ high_bits k b h s hs hk =
 module _ (a b : ℕ) (a-pos : 0 < a) (a_lt : a < 32) (b-pos : 0 < b) (b_lt : b < 32) where
   -- the sum with the rotation by a
   pub quarter-sum : (x y t : List ℕ) → Above a t y → lanes2 addw (lanes2 addw x (lanes (shlw ((32 - a) % 32)) y)) (lanes (λ v. v / 2 ^ (a % 32)) t) ≡ lanes2 (λ u v. addw u (rotr a v)) x y
-  unfolding Above lanes2 lanes
+  unfolding lanes2 lanes
   quarter-sum x y t above =
       let e : (32 - a) % 32 ≡ 32 - a = omega arith in
       let f : a % 32 ≡ a = omega arith in
@@ -57,7 +57,7 @@ quarter_x a b x y rc = refl
 
 -- what y takes up last are low bits
 pub above_low : (k b n : ℕ) (h x y : List ℕ) → 32 ≤ k + b → n ≡ b → Above k h (lanes2 bit_xor h (lanes (λ v. v / 2 ^ n) (lanes2 addw x y)))
-unfolding Above lanes2 lanes
+unfolding lanes2 lanes
 above_low k b n h x y hk e =
     four_ext (λ i.
     sym
@@ -71,16 +71,13 @@ shr_lanes k u v = four_ext (λ i. xor_shr (get_or u i 0) (get_or v i 0) k)
 
 -- words that agree from bit k on still do when the same is xored into both
 above_xor : (k : ℕ) (t y h : List ℕ) → Above k t y → Above k (lanes2 bit_xor t h) (lanes2 bit_xor y h)
-unfolding Above
 above_xor k t y h above =
     shr_lanes k t h ∙ ap (λ (l : List ℕ). lanes2 bit_xor l (lanes (λ x. x / 2 ^ k) h)) above ∙ sym (shr_lanes k y h)
 
 above_trans : (k : ℕ) (t u y : List ℕ) → Above k t u → Above k u y → Above k t y
-unfolding Above
 above_trans k t u y p q = p ∙ q
 
 pub above_refl : (k : ℕ) (y : List ℕ) → Above k y y
-unfolding Above
 above_refl k y = refl
 
 -- ---- the third quarter, whose first rotation is by 0
@@ -135,7 +132,7 @@ ell_halves v hv =
     ∙ ap (λ (n : ℕ). bit_xor n (v % 2 ^ 16)) (xor_rotr 16 (lit≤ tt) v hv)
 
 pub ell-lanes : (v t : List ℕ) → Above 16 t v → ((i : ℕ) → get_or v i 0 < 2 ^ 32) → lanes2 bit_xor (lanes (shlw 16) v) (lanes (λ x. x / 2 ^ 16) (lanes2 bit_xor t (lanes (shlw 16) v))) ≡ lanes ell v
-unfolding Above lanes lanes2
+unfolding lanes lanes2
 ell-lanes v t above hv =
     ap (λ (l : List ℕ). lanes2 bit_xor (lanes (shlw 16) v) l)
     (shr_lanes 16 t (lanes (shlw 16) v)

@@ -1,5 +1,6 @@
 -- The laws that the proofs of `sparkle`, and of the crates above it, cite.
 pub mod Tab
+pub mod Sizes
 pub mod Xor
 pub mod Rotate
 pub mod Lengths

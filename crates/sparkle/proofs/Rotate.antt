@@ -1,9 +1,11 @@
 -- A rotation as two shifts, whose bits do not meet: joined by or, by xor, or added one after the other.
-use Rattle.std.proofs.Common.{◌≡◌, ℕ, ◌+◌, ◌-◌, ◌*◌, ◌/◌, ◌%◌, ◌^◌, ◌<◌, ◌≤◌, sym, ap, ◌∙◌, subst, ap₂, add-zero, add_assoc, mod-lt, arith, pow_pos, pow-add, shr_lt}
+use Rattle.std.proofs.Common.{◌≡◌, ℕ, zero, suc, w32, ◌+◌, ◌-◌, ◌*◌, ◌/◌, ◌%◌, ◌^◌, ◌<◌, ◌≤◌, sym, ap, ◌∙◌, subst, ap₂, add-zero, add_assoc, mod-lt, arith, pow_pos, pow-add, shr_lt}
 use native.Mathlib.Nat.{mul-mod_left, mod-add-mod}
 use lib.Arith.{digits_lt}
 use lib.Pow.{mod-pow-add, shl-shr}
 use lib.Bits.{bit_or, bit_xor, or_shifted_r, xor_shifted}
+use Rattle.std.specs.Int.{rotate_right}
+use Rattle.std.specs.Int.Bits.{or_self}
 use Rattle.sparkle.specs.Words.{addw, shlw, rotr}
 use Rattle.sparkle.proofs.Xor.{xor_assoc}
 
@@ -61,6 +63,20 @@ module _ (k : ℕ) (hk : k ≤ 32) where
 pub rotr_zero : (x : ℕ) → rotr 0 x ≡ x
 unfolding rotr
 rotr_zero x = omega arith
+
+-- the library's rotation, whose two shifts are joined by or: a rotation by 0 has the word twice
+rotated : (k x : ℕ) → k < 32 → x < 2 ^ 32 → bit_or (x / 2 ^ k) (x * 2 ^ ((32 - k) % 32) % 2 ^ 32) ≡ rotr k x
+unfolding shlw
+rotated zero x hk hx =
+    let right : x / 2 ^ 0 ≡ x = omega arith in
+    let left : x * 2 ^ 0 % 2 ^ 32 ≡ x = omega arith in
+    ap₂ bit_or right left ∙ or_self x ∙ sym (rotr_zero x)
+rotated (suc k) x hk hx =
+    let e : (32 - suc k) % 32 ≡ 32 - suc k = omega arith in
+    ap (λ (m : ℕ). bit_or (x / 2 ^ suc k) (shlw m x)) e ∙ or-rotr (suc k) (omega arith) x hx
+
+pub rotate_right_rotr : (n x : ℕ) → x < 2 ^ 32 → rotate_right w32 x n ≡ rotr (n % 32) x
+rotate_right_rotr n x hx = rotated (n % 32) x (omega arith) hx
 
 -- a shift left by half a word, shifted back: the low half
 pub shlw_half : (x : ℕ) → shlw 16 x / 2 ^ 16 ≡ x % 2 ^ 16

@@ -28,48 +28,20 @@ pub run_next : (b s i : ℕ) (w : List ℕ) → step b (s + i) (run b s i w) ≡
 unfolding run
 run_next b s i w = sym (run_add b s i 1 w)
 
+-- the same with the step's number modulo 2^32, as the code counts it
+pub run_next_wrapped : (b s i : ℕ) (w : List ℕ) {v u : List ℕ} → v ≡ run b s i w → u ≡ step b ((s + i) % 2 ^ 32) v → u ≡ run b s (i + 1) w
+run_next_wrapped b s i w {v} before turn =
+    turn ∙ step_wraps b ((s + i) % 2 ^ 32) (s + i) v (omega arith) ∙ ap (step b (s + i)) before ∙ run_next b s i w
+
 -- with no step left, the run is over
 pub run_none : (b s k : ℕ) (w : List ℕ) → k ≤ 0 → w ≡ run b s k w
 unfolding run
 run_none b s zero w h = refl
 run_none b s (suc k) w h = absurd (omega arith)
 
--- one step is run, and k steps are left; the number that follows wraps
-run_step : (b s k : ℕ) (w : List ℕ) → run b ((s + 1) % 2 ^ 32) k (step b s w) ≡ run b s (suc k) w
+-- the last of the steps that are left ends the run
+pub run-last : (b first count s left : ℕ) (v₀ v w : List ℕ) → 0 < left → run b s left v ≡ run b first count v₀ → w ≡ step b s v → left ≤ 1
+    → w ≡ run b first count v₀
 unfolding run
-run_step b s k w = run_wraps b ((s + 1) % 2 ^ 32) (suc s) k (step b s w) (omega arith)
-
--- A loop that runs `count` steps from `first` on, and leaves with its last turn: at step s a step is left, and the steps
--- that are left, run on what is there, give what was to come.
-pub record Left (b first count : ℕ) (v₀ v : List ℕ) (s left : ℕ) : Type 0 where
-  pub some : 0 < left
-  pub same : run b s left v ≡ run b first count v₀
-
-pub run-start : {b first count : ℕ} {v : List ℕ} → 0 < count → Left b first count v v first count
-run-start h = record { some = h; same = refl }
-
--- a turn of the loop runs step s
-module _ {b first count : ℕ} {v₀ v w : List ℕ} {s left : ℕ} (at : Left b first count v₀ v s left) (turn : w ≡ step b s v) where
-  -- the steps that are then left
-  same_after : (t rest : ℕ) → t ≡ (s + 1) % 2 ^ 32 → rest + 1 ≡ left → run b t rest w ≡ run b first count v₀
-  same_after t rest next one =
-      let e : suc rest ≡ left = omega arith in
-      ap₂ (λ (n : ℕ) (l : List ℕ). run b n rest l) next turn ∙ run_step b s rest v ∙ ap (λ (n : ℕ). run b s n v) e
-      ∙ at.same
-
-  pub run-turn : {t rest : ℕ} → t ≡ (s + 1) % 2 ^ 32 → rest + 1 ≡ left → 0 < rest → Left b first count v₀ w t rest
-  run-turn {t} {rest} next one some = record { some = some; same = same_after t rest next one }
-
-  pub run-last : left ≤ 1 → w ≡ run b first count v₀
-  run-last last =
-      let some = at.some in
-      run_none b _ 0 w (omega arith) ∙ same_after _ 0 refl (omega arith)
-
--- a turn of the loop runs the next i steps
-pub run_part : {b first count : ℕ} {v₀ v w : List ℕ} {s left : ℕ} (i : ℕ) → Left b first count v₀ v s left → w ≡ run b s i v → {rest : ℕ} → i + rest ≡ left → 0 < rest → Left b first count v₀ w (s + i) rest
-run_part {b} {first} {count} {v₀} {v} {w} {s} {left} i at turn {rest} cut some =
-    record {
-      some = some;
-      same =
-          ap (run b (s + i) rest) turn ∙ sym (run_add b s i rest v) ∙ ap (λ (n : ℕ). run b s n v) cut ∙ at.same;
-    }
+run-last b first count s left v₀ v w some same turn last =
+    let e : 1 ≡ left = omega arith in turn ∙ ap (λ (n : ℕ). run b s n v) e ∙ same

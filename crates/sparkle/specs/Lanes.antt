@@ -36,7 +36,7 @@ unfoldable pub folded : List ℕ → List ℕ
 folded v = four (λ i. bit_xor (bit_xor (bit_xor (slice_index v 0) (slice_index v 1)) (slice_index v 2)) (slice_index v 3))
 
 -- In each lane, t and y agree from bit k on.
-unfoldable pub Above : ℕ → List ℕ → List ℕ → Type 0
+abbrev pub Above : ℕ → List ℕ → List ℕ → Type 0
 Above k t y = lanes (λ x. x / 2 ^ k) t ≡ lanes (λ x. x / 2 ^ k) y
 
 -- The words of four branches.
@@ -54,6 +54,6 @@ unfoldable pub row : ℕ → List ℕ
 row s = rcon (s % 8) ∷ (s % 2 ^ 32 ∷ (0 ∷ (0 ∷ [])))
 
 -- The rows of n steps, one after the other, the first of them that of step s.
-unfoldable pub rows_from : ℕ → ℕ → List ℕ
+unfoldable pub rows_from : ℕ → ℕ → List (List ℕ)
 rows_from s zero = []
-rows_from s (suc n) = row s ++ rows_from (suc s) n
+rows_from s (suc n) = row s ∷ rows_from (suc s) n

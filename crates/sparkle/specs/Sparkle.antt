@@ -1,7 +1,7 @@
 -- The Sparkle permutation, in the order and words of "Schwaemm and Esch" (the Sparkle submission, finalist edition)
 -- and of document 01, "Down to the words". A state is a list of words x0 y0 x1 y1 .., two to a branch. Everything is
 -- general in the number of branches, which is 4, 6 or 8 for the states of 8, 12 and 16 words.
-use Rattle.std.specs.Prelude.{ℕ, zero, suc, ◌+◌, ◌%◌, ◌^◌, List, [], ◌∷◌, ◌++◌, map, take, drop, replicate, bit_xor, slice_index, slice_index_or, slice_set}
+use Rattle.std.specs.Prelude.{ℕ, zero, suc, ◌+◌, ◌%◌, ◌^◌, List, [], ◌∷◌, ◌++◌, map, take, drop, replicate, bit_xor, slice_index, slice_index_or, slice_set, Option, Some, None, cond, eqb}
 use Rattle.sparkle.specs.Words.{addw, rotr, ell}
 use Rattle.sparkle.specs.declared.scalar.Branch.{Branch}
 use Rattle.sparkle.specs.declared.scalar.StateWords.{StateWords}
@@ -106,3 +106,7 @@ abbrev pub branches : StateWords → ℕ
 branches Words8 = 4
 branches Words12 = 6
 branches Words16 = 8
+
+-- The state that has so many words, two to a branch, if one has.
+unfoldable pub state_words : ℕ → Option StateWords
+state_words n = cond (eqb n 8) (Some Words8) (cond (eqb n 12) (Some Words12) (cond (eqb n 16) (Some Words16) None))

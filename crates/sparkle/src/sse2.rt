@@ -1,19 +1,23 @@
 // The permutation of 16 words in four groups of four (the Rust's sse2.rs): arrays by value in place
-// of `__m128i`, and lane helpers in place of the intrinsics.
+// of `__m128i`, and lane helpers in place of the intrinsics. The helpers are functions of their own, and no
+// one function that takes the operation: document 01 names them ("lane helpers for add, xor, shift and
+// shuffle").
 //
 // The compiler makes SSE2 instructions of it where it finds the four lanes alike and no rotation, for
 // which SSE2 has no instruction. So a rotation is taken up one shift after the other, and the right
 // shift is taken of `t`, which has the high bits of y and not its low ones. The constants of a step
 // are a row that is read whole from a table, so that all lanes are alike: of a row written
 // `[rc, s, 0, 0]` in the loop the two zeros fold away, and the lanes part. And `step16` has one
-// caller, so that it is compiled into `run_rows`. docs/PERFORMANCE.md compares it with other shapes,
-// and the gate looks at the instructions.
+// caller, so that it is compiled into `run_rows`: with `#[inline(always)]` the loop over the steps has 14
+// shuffles in the archives in place of 12, at the same 134 instructions. docs/PERFORMANCE.md compares it
+// with other shapes, and the gate looks at the instructions.
 ghost use Rattle.std.specs.Prelude.{◌≡◌, ℕ, ◌+◌, ◌/◌, ◌%◌, ◌^◌, ◌<◌, ◌≤◌, bit_and, bit_or, bit_xor};
 ghost use Rattle.sparkle.specs.Words.{addw, shlw, ell};
 ghost use Rattle.sparkle.specs.Sparkle.{quarter, arx_box, step, run, sparkle_in};
 ghost use Rattle.sparkle.specs.Lanes.{lanes, lanes2, shuffled, lanes_x, lanes_y, folded, Above, joined, row, rows_from};
 
 use super::scalar;
+use super::scalar::RCON;
 
 // The state: words 0, 2, 4, 6, then 1, 3, 5, 7, and so on.
 #[derive(Clone, Copy)]
@@ -26,76 +30,29 @@ pub struct Groups {
 
 // The constants of the first twelve steps, a row for each: row s has RCON[s % 8], the step's number s
 // and two zeros, which step s xors into words 1, 3, 5 and 7.
-const ROWS: [u32; 48] = [
-    // row 0
-    0xb7e1_5162,
-    0,
-    0,
-    0,
-    // row 1
-    0xbf71_5880,
-    1,
-    0,
-    0,
-    // row 2
-    0x38b4_da56,
-    2,
-    0,
-    0,
-    // row 3
-    0x324e_7738,
-    3,
-    0,
-    0,
-    // row 4
-    0xbb11_85eb,
-    4,
-    0,
-    0,
-    // row 5
-    0x4f7c_7b57,
-    5,
-    0,
-    0,
-    // row 6
-    0xcfbf_a1c8,
-    6,
-    0,
-    0,
-    // row 7
-    0xc2b3_293d,
-    7,
-    0,
-    0,
-    // row 8
-    0xb7e1_5162,
-    8,
-    0,
-    0,
-    // row 9
-    0xbf71_5880,
-    9,
-    0,
-    0,
-    // row 10
-    0x38b4_da56,
-    10,
-    0,
-    0,
-    // row 11
-    0x324e_7738,
-    11,
-    0,
-    0,
+const ROWS: [[u32; 4]; 12] = [
+    [RCON[0], 0, 0, 0],
+    [RCON[1], 1, 0, 0],
+    [RCON[2], 2, 0, 0],
+    [RCON[3], 3, 0, 0],
+    [RCON[4], 4, 0, 0],
+    [RCON[5], 5, 0, 0],
+    [RCON[6], 6, 0, 0],
+    [RCON[7], 7, 0, 0],
+    [RCON[0], 8, 0, 0],
+    [RCON[1], 9, 0, 0],
+    [RCON[2], 10, 0, 0],
+    [RCON[3], 11, 0, 0],
 ];
 
-// Four branches on the way through a box: the x words, the y words, and words with the high bits of
-// the y words.
+// Four branches on the way through a box: the x words, the y words, and words t with the bits of the
+// y words from bit FROM on.
 #[derive(Clone, Copy)]
-pub struct Lanes {
-    pub x: [u32; 4],
-    pub y: [u32; 4],
-    pub t: [u32; 4],
+struct Lanes<const FROM: u32> {
+    x: [u32; 4],
+    y: [u32; 4],
+    t: [u32; 4],
+    ghost above: { Above FROM t y },
 }
 
 // The sums of the lanes, without carries out of them.
@@ -103,10 +60,10 @@ pub fn add4(a: [u32; 4], b: [u32; 4]) -> [u32; 4]
     ensures { result ≡ lanes2 addw a b }
 {
     [
-        std::num::wrapping_add_u32(a[0], b[0]),
-        std::num::wrapping_add_u32(a[1], b[1]),
-        std::num::wrapping_add_u32(a[2], b[2]),
-        std::num::wrapping_add_u32(a[3], b[3]),
+        a[0].wrapping_add(b[0]),
+        a[1].wrapping_add(b[1]),
+        a[2].wrapping_add(b[2]),
+        a[3].wrapping_add(b[3]),
     ]
 }
 
@@ -155,13 +112,14 @@ pub fn shuffle4(v: [u32; 4], control: usize) -> [u32; 4]
     [v[a], v[b], v[c], v[d]]
 }
 
-// A quarter of the ARX box on four branches, with the rotations a and b.
-fn quarter4(x: [u32; 4], y: [u32; 4], t: [u32; 4], a: u32, b: u32, rc: [u32; 4]) -> Lanes
-    requires { (0 < a) × (a < 32) × (0 < b) × (b < 32) × Above a t y }
-    ensures { (result.x ≡ lanes_x (quarter a b) rc x y) × (result.y ≡ lanes_y (quarter a b) rc x y) × ((k : ℕ) → 32 ≤ k + b → Above k result.t result.y) }
+// A quarter of the ARX box on four branches, with the rotations A and b. The next rotation is TO.
+#[inline(always)]
+fn quarter4<const A: u32, const TO: u32>(v: Lanes<A>, b: u32, rc: [u32; 4]) -> Lanes<TO>
+    requires { (0 < A) × (A < 32) × (0 < b) × (b < 32) × (32 ≤ TO + b) }
+    ensures { (result.x ≡ lanes_x (quarter A b) rc v.entry.x v.entry.y) × (result.y ≡ lanes_y (quarter A b) rc v.entry.x v.entry.y) }
 {
-    let sum = add4(add4(x, shl4(y, 32 - a)), shr4(t, a));
-    let high = xor4(y, shl4(sum, 32 - b));
+    let sum = add4(add4(v.x, shl4(v.y, 32 - A)), shr4(v.t, A));
+    let high = xor4(v.y, shl4(sum, 32 - b));
     Lanes {
         x: xor4(sum, rc),
         y: xor4(high, shr4(sum, b)),
@@ -169,78 +127,47 @@ fn quarter4(x: [u32; 4], y: [u32; 4], t: [u32; 4], a: u32, b: u32, rc: [u32; 4])
     }
 }
 
-// The third quarter, whose first rotation is by 0.
-fn third4(x: [u32; 4], y: [u32; 4], t: [u32; 4], rc: [u32; 4]) -> Lanes
-    requires { Above 24 t y }
-    ensures { (result.x ≡ lanes_x (quarter 0 31) rc x y) × (result.y ≡ lanes_y (quarter 0 31) rc x y) × Above 24 result.t result.y }
+// The third quarter, whose first rotation is by 0. It is no instance of `quarter4`, which shifts by 32 - A:
+// a shift by 32 would be one by 0, and each of the three words is put together in another way.
+#[inline(always)]
+fn third4(v: Lanes<24>, rc: [u32; 4]) -> Lanes<24>
+    ensures { (result.x ≡ lanes_x (quarter 0 31) rc v.x v.y) × (result.y ≡ lanes_y (quarter 0 31) rc v.x v.y) }
 {
-    let sum = add4(x, y);
+    let sum = add4(v.x, v.y);
     let high = shl4(sum, 1);
     Lanes {
         x: xor4(sum, rc),
-        y: xor4(xor4(y, high), shr4(sum, 31)),
-        t: xor4(t, high),
+        y: xor4(xor4(v.y, high), shr4(sum, 31)),
+        t: xor4(v.t, high),
     }
 }
 
-// The last quarter of the second four branches, half a word at a time.
-fn last4(x: [u32; 4], y: [u32; 4], t: [u32; 4], rc: [u32; 4]) -> Lanes
-    requires { Above 24 t y }
-    ensures { (result.x ≡ lanes_x (quarter 24 16) rc x y) × (result.y ≡ lanes_y (quarter 24 16) rc x y) }
+// The last quarter of the second four branches, half a word at a time: nothing shifts these y words
+// afterwards, and of a t that nobody takes up the compiler would make rotations.
+#[inline(always)]
+fn last4(v: Lanes<24>, rc: [u32; 4]) -> Lanes<0>
+    ensures { (result.x ≡ lanes_x (quarter 24 16) rc v.x v.y) × (result.y ≡ lanes_y (quarter 24 16) rc v.x v.y) }
 {
-    let sum = add4(add4(x, shl4(y, 8)), shr4(t, 24));
-    let high = and4(
-        xor4(y, shl4(sum, 16)),
-        [0xffff_0000, 0xffff_0000, 0xffff_0000, 0xffff_0000],
-    );
-    let low = and4(
-        xor4(y, shr4(sum, 16)),
-        [0x0000_ffff, 0x0000_ffff, 0x0000_ffff, 0x0000_ffff],
-    );
+    let sum = add4(add4(v.x, shl4(v.y, 8)), shr4(v.t, 24));
+    let high = and4(xor4(v.y, shl4(sum, 16)), [0xffff_0000; 4]);
+    let low = and4(xor4(v.y, shr4(sum, 16)), [0x0000_ffff; 4]);
+    let y = or4(high, low);
     Lanes {
         x: xor4(sum, rc),
-        y: or4(high, low),
-        t: high,
+        y,
+        t: y,
     }
 }
 
-// The boxes of the first four branches.
-fn low_boxes(x: [u32; 4], y: [u32; 4], rc: [u32; 4]) -> Lanes
-    ensures { (result.x ≡ lanes_x arx_box rc x y) × (result.y ≡ lanes_y arx_box rc x y) × Above 16 result.t result.y }
+// The boxes of four branches but for their last quarter.
+#[inline(always)]
+fn three_quarters(x: [u32; 4], y: [u32; 4], rc: [u32; 4]) -> Lanes<24>
+    ensures { (lanes_x (quarter 24 16) rc result.x result.y ≡ lanes_x arx_box rc x y) × (lanes_y (quarter 24 16) rc result.x result.y ≡ lanes_y arx_box rc x y) }
 {
-    let a = quarter4(x, y, y, 31, 24, rc);
-    let ax = a.x;
-    let ay = a.y;
-    let at = a.t;
-    let b = quarter4(ax, ay, at, 17, 17, rc);
-    let bx = b.x;
-    let by = b.y;
-    let bt = b.t;
-    let c = third4(bx, by, bt, rc);
-    let cx = c.x;
-    let cy = c.y;
-    let ct = c.t;
-    quarter4(cx, cy, ct, 24, 16, rc)
-}
-
-// The boxes of the second four branches. They are not one function with the first four: called in
-// two places, it would not be inlined.
-fn high_boxes(x: [u32; 4], y: [u32; 4], rc: [u32; 4]) -> Lanes
-    ensures { (result.x ≡ lanes_x arx_box rc x y) × (result.y ≡ lanes_y arx_box rc x y) }
-{
-    let a = quarter4(x, y, y, 31, 24, rc);
-    let ax = a.x;
-    let ay = a.y;
-    let at = a.t;
-    let b = quarter4(ax, ay, at, 17, 17, rc);
-    let bx = b.x;
-    let by = b.y;
-    let bt = b.t;
-    let c = third4(bx, by, bt, rc);
-    let cx = c.x;
-    let cy = c.y;
-    let ct = c.t;
-    last4(cx, cy, ct, rc)
+    let start = Lanes::<31> { x, y, t: y };
+    let first: Lanes<17> = quarter4(start, 24, rc);
+    let second: Lanes<24> = quarter4(first, 17, rc);
+    third4(second, rc)
 }
 
 // ell of each lane; t has the high halves of the lanes.
@@ -273,41 +200,35 @@ fn ell_of_xor(v: [u32; 4], t: [u32; 4]) -> [u32; 4]
 fn step16(g: Groups, constants: [u32; 4]) -> Groups
     ensures { (s : ℕ) → constants ≡ row s → joined result ≡ step 8 s (joined g) }
 {
-    let s0246 = g.s0246;
-    let s1357 = g.s1357;
-    let s8ace = g.s8ace;
-    let s9bdf = g.s9bdf;
-    let rc03 = [scalar::RCON0, scalar::RCON1, scalar::RCON2, scalar::RCON3];
-    let rc47 = [scalar::RCON4, scalar::RCON5, scalar::RCON6, scalar::RCON7];
-    let low = low_boxes(s0246, xor4(s1357, constants), rc03);
-    let high = high_boxes(s8ace, s9bdf, rc47);
-    let lx = low.x;
-    let ly = low.y;
-    let lt = low.t;
-    let hx = high.x;
-    let hy = high.y;
-    let x = ell_of_xor(lx, lx);
-    let y = ell_of_xor(ly, lt);
+    let rc03 = [RCON[0], RCON[1], RCON[2], RCON[3]];
+    let rc47 = [RCON[4], RCON[5], RCON[6], RCON[7]];
+    let first = three_quarters(g.s0246, xor4(g.s1357, constants), rc03);
+    let low: Lanes<16> = quarter4(first, 16, rc03);
+    let second = three_quarters(g.s8ace, g.s9bdf, rc47);
+    let high = last4(second, rc47);
+    let x = ell_of_xor(low.x, low.x);
+    let y = ell_of_xor(low.y, low.t);
+    let s8ace = low.x;
+    let s9bdf = low.y;
     Groups {
-        s0246: xor4(y, shuffle4(xor4(lx, hx), 0x39)),
-        s1357: xor4(x, shuffle4(xor4(ly, hy), 0x39)),
-        s8ace: lx,
-        s9bdf: ly,
+        s0246: xor4(y, shuffle4(xor4(low.x, high.x), 0x39)),
+        s1357: xor4(x, shuffle4(xor4(low.y, high.y), 0x39)),
+        s8ace,
+        s9bdf,
     }
 }
 
 // `count` steps, by the rows of a table whose first row is that of the step `first`, which only the
-// contract names. The test stands at the end of a turn, which keeps the groups in SSE2 registers.
-fn run_rows(start: Groups, rows: [u32; 48], count: u32) -> Groups
+// contract names. The test stands at the end of a turn: with a `for` over the rows the lanes part, and
+// with a call of it for each block packets take 4 percent more instructions (docs/PERFORMANCE.md).
+fn run_rows(start: Groups, rows: [[u32; 4]; 12], count: u32) -> Groups
     requires { (0 < count) × (count ≤ 12) }
     ensures { (first : ℕ) → rows ≡ rows_from first 12 → joined result ≡ run 8 first count (joined start) }
 {
     let mut g = start;
     let mut s = 0u32;
     loop {
-        let k = s as usize * 4;
-        let next = step16(g, [rows[k], rows[k + 1], rows[k + 2], rows[k + 3]]);
-        g = next;
+        g = step16(g, rows[s as usize]);
         s += 1;
         if s == count {
             break;
@@ -316,25 +237,28 @@ fn run_rows(start: Groups, rows: [u32; 48], count: u32) -> Groups
     g
 }
 
+// The row of step s.
+#[tactic(auto, unfolding(crate::specs::Lanes::row))]
+fn row(s: u32) -> [u32; 4]
+    ensures { result ≡ row s }
+{
+    [scalar::round_constant(s), s, 0, 0]
+}
+
 // The rows of twelve steps from the step `first` on, computed.
-fn rows_from(first: u32) -> [u32; 48]
+fn rows_from(first: u32) -> [[u32; 4]; 12]
     ensures { result ≡ rows_from first 12 }
 {
-    let mut r = [0u32; 48];
-    let mut i = 0;
-    let mut s = first;
-    while i < 12 {
-        let k = i * 4;
-        r[k] = scalar::round_constant(s);
-        r[k + 1] = s;
-        s = scalar::next_step(s);
-        i += 1;
-    }
-    r
+    std::array::from_fn(
+        |i: usize| -> [u32; 4]
+            requires { i < 12 }
+            ensures { result ≡ row (first + i) }
+        { row(first.wrapping_add(i as u32)) },
+    )
 }
 
 // The permutation's steps on four groups, from step 0: the first twelve by the table of rows, those
-// behind them by rows that are computed.
+// behind them by rows that are computed, twelve at a time.
 pub fn run_groups(start: Groups, count: u32) -> Groups
     ensures { joined result ≡ run 8 0 count (joined start) }
 {
@@ -343,20 +267,14 @@ pub fn run_groups(start: Groups, count: u32) -> Groups
     }
     let mut g = start;
     let mut rows = ROWS;
-    let mut first = 0u32;
-    let mut left = count;
-    while 12 < left {
-        let next = run_rows(g, rows, 12);
-        g = next;
-        first += 12;
-        left -= 12;
-        let more = rows_from(first);
-        rows = more;
+    for first in (12..count).step_by(12) {
+        g = run_rows(g, rows, 12);
+        rows = rows_from(first);
     }
-    run_rows(g, rows, left)
+    run_rows(g, rows, (count - 1) % 12 + 1)
 }
 
-// A state in four groups.
+// A state in four groups. By name and no `From`, which would not say the order of the words.
 pub fn split(w: [u32; 16]) -> Groups
     ensures { joined result ≡ w }
 {

@@ -2,8 +2,7 @@
 // `sparkle_run`, which starts at any step (docs/HOST.md). The words are lent and changed.
 #![tactic(auto)]
 
-ghost use Rattle.std.specs.Prelude.{◌≡◌, cond, ◌+◌, ◌≤◌, leb, length};
-ghost use Rattle.std.proofs.Math.Seq.{paste};
+ghost use Rattle.std.specs.Prelude.{◌≡◌, ◌+◌, ◌≤◌, length};
 ghost use Rattle.sparkle.specs.Sparkle.{sparkle_in, branches};
 ghost use Rattle.sparkle_bench.specs.Sizes.{branches_of};
 ghost use Rattle.sparkle_bench.specs.Run.{sparkle_run, run_reply};
@@ -15,21 +14,8 @@ use sparkle::scalar::StateWords;
 pub extern "C" fn sparkle_bench_scalar(state: &mut [u32; 16], words: u32, steps: u32)
     ensures { state.new ≡ sparkle_in (branches_of words) 0 steps state.old }
 {
-    let w = *state;
-    match words {
-        8 => {
-            let r = sparkle::scalar::sparkle_scalar(w, StateWords::Words8, 0, steps);
-            *state = r;
-        }
-        12 => {
-            let r = sparkle::scalar::sparkle_scalar(w, StateWords::Words12, 0, steps);
-            *state = r;
-        }
-        _ => {
-            let r = sparkle::scalar::sparkle_scalar(w, StateWords::Words16, 0, steps);
-            *state = r;
-        }
-    }
+    let size = StateWords::from_count(words).unwrap_or(StateWords::Words16);
+    *state = sparkle::scalar::sparkle_scalar(*state, size, 0, steps);
 }
 
 // The four-group form.
@@ -37,37 +23,19 @@ pub extern "C" fn sparkle_bench_scalar(state: &mut [u32; 16], words: u32, steps:
 pub extern "C" fn sparkle_bench_groups(state: &mut [u32; 16], steps: u32)
     ensures { state.new ≡ sparkle_in 8 0 steps state.old }
 {
-    let w = *state;
-    let r = sparkle::sse2::sparkle_opt16(w, steps);
-    *state = r;
+    *state = sparkle::sse2::sparkle_opt16(*state, steps);
 }
 
-// The first n words of a slice laid over those of another.
-fn copy(to: &mut [u32], from: &[u32], n: usize)
-    requires { (n ≤ length to.old) × (n ≤ length from.now) }
-    ensures { to.new ≡ paste to.old 0 from.now n }
+// A run on the state at the head of a slice.
+fn run_on(words: &mut [u32], size: StateWords, first: u32, count: u32)
+    requires { branches size + branches size ≤ length words.old }
+    ensures { words.new ≡ sparkle_in (branches size) first count words.old }
 {
-    let mut i = 0;
-    while i < n {
-        to[i] = from[i];
-        i += 1;
-    }
-}
-
-// A run on the n words at the head of a slice, if there are so many.
-fn run_on(words: &mut [u32], size: StateWords, n: usize, first: u32, count: u32) -> u8
-    requires { n ≡ branches size + branches size }
-    ensures value { result ≡ cond (leb n (length words.old)) 0 1 }
-    ensures words_after { words.new ≡ cond (leb n (length words.old)) (sparkle_in (branches size) first count words.old) words.old }
-{
-    if words.len() < n {
-        return 1;
-    }
+    let n = size.count();
     let mut w = [0u32; 16];
-    copy(&mut w, words, n);
+    w[..n].copy_from_slice(&words[..n]);
     let r = sparkle::scalar::sparkle_scalar(w, size, first, count);
-    copy(words, &r, n);
-    0
+    words[..n].copy_from_slice(&r[..n]);
 }
 
 // `count` steps from the step `first` on, on a state of `size` words at the head of a slice
@@ -78,10 +46,11 @@ pub extern "C" fn sparkle_run(words: &mut [u32], size: u8, first: u32, count: u3
     ensures value { result ≡ run_reply size words.old }
     ensures words_after { words.new ≡ sparkle_run size first count words.old }
 {
-    match size {
-        8 => run_on(words, StateWords::Words8, 8, first, count),
-        12 => run_on(words, StateWords::Words12, 12, first, count),
-        16 => run_on(words, StateWords::Words16, 16, first, count),
+    match StateWords::from_count(size as u32) {
+        Some(state) if state.count() <= words.len() => {
+            run_on(words, state, first, count);
+            0
+        }
         _ => 1,
     }
 }

@@ -3,7 +3,7 @@
 //
 //     let mut run = PartialRun { size: StateWords::Words12, words, next: 0, left: 11 };
 //     while 0 < run.left {
-//         run = sparkle_parts::advance(run, 1);
+//         run = run.advance(1);
 //     }
 #![tactic(auto)]
 
@@ -13,7 +13,8 @@ ghost use Rattle.sparkle_parts.specs.Parts.{Valid, advance};
 use sparkle::scalar::StateWords;
 
 // A run of steps on its way: the size of the state, the array that begins with it, the number of the
-// next step and how many steps are left.
+// next step and how many steps are left. The array has 16 words at each size: what is beyond the state
+// stays as it is, which contracts say.
 #[derive(Clone, Copy)]
 pub struct PartialRun {
     pub size: StateWords,
@@ -22,20 +23,21 @@ pub struct PartialRun {
     pub left: u32,
 }
 
-// At most `most` of the steps that are left; none where `most` is 0. Parts whose counts sum to at
-// least the steps that are left make the whole run (`parts_make_the_run`). The words beyond the
-// state's stay as they are.
-pub fn advance(run: PartialRun, most: u32) -> PartialRun
-    ensures value { result ≡ advance most run }
-    ensures valid { Valid result }
-{
-    let count = if most < run.left { most } else { run.left };
-    let size = run.size;
-    let words = run.words;
-    PartialRun {
-        size,
-        words: sparkle::scalar::sparkle_scalar(words, size, run.next, count),
-        next: std::num::wrapping_add_u32(run.next, count),
-        left: run.left - count,
+impl PartialRun {
+    // At most `most` of the steps that are left; none where `most` is 0. Parts whose counts sum to at
+    // least the steps that are left make the whole run (`parts_make_the_run`). The words beyond the
+    // state's stay as they are.
+    #[tactic(auto, unfolding(crate::specs::Parts::advance))]
+    pub fn advance(self, most: u32) -> PartialRun
+        ensures value { result ≡ advance most self }
+        ensures valid { Valid result }
+    {
+        let count = most.min(self.left);
+        PartialRun {
+            words: sparkle::scalar::sparkle_scalar(self.words, self.size, self.next, count),
+            next: self.next.wrapping_add(count),
+            left: self.left - count,
+            ..self
+        }
     }
 }

@@ -38,85 +38,59 @@ const MULTIPLES: [u32; 16] = [
     0xe377_9b90,
 ];
 
-fn print_number(rt: &impl Print, n: u64) -> io::Result<()> {
-    print!(rt; " {n}")
-}
+// The states that are run.
+const STATES: [[u32; 16]; 4] = [ZEROS, PLACES, ONES, MULTIPLES];
+
+// The three sizes of a state.
+const SIZES: [StateWords; 3] = [StateWords::Words8, StateWords::Words12, StateWords::Words16];
+
+// The counts of steps that are run from step 0.
+const COUNTS: [u32; 9] = [0, 1, 2, 7, 8, 10, 11, 12, 17];
+
+// Runs that are picked up: the step at which, and how many steps follow.
+const PICKED_UP: [(u32, u32); 5] = [(1, 6), (2, 8), (7, 5), (8, 9), (12, 5)];
+
+// Runs far from step 0: the size, the first step and the count.
+const FAR: [(StateWords, u32, u32); 5] = [
+    (StateWords::Words8, 0xffff_ffff, 2),
+    (StateWords::Words12, 0x1234_5678, 5),
+    (StateWords::Words12, 0xffff_fffd, 7),
+    (StateWords::Words16, 0x8000_0000, 4),
+    (StateWords::Words16, 0xffff_fffe, 3),
+];
 
 fn print_words(rt: &impl Print, w: [u32; 16]) -> io::Result<()> {
-    for i in 0..16 {
-        print!(rt; " {:08x}", w[i])?;
+    for word in w {
+        print!(rt; " {word:08x}")?;
     }
     println!(rt; "")
 }
 
-fn scalar(
-    rt: &impl Print,
-    w: [u32; 16],
-    size: StateWords,
-    words: u64,
-    steps: u32,
-) -> io::Result<()> {
-    print!(rt; "scalar")?;
-    print_number(rt, words)?;
-    print_number(rt, steps as u64)?;
+// Array and size stand side by side, as `sparkle_scalar` takes them: a line has all 16 words.
+fn scalar(rt: &impl Print, w: [u32; 16], size: StateWords, steps: u32) -> io::Result<()> {
+    print!(rt; "scalar {} {steps}", size.count())?;
     print_words(rt, sparkle::scalar::sparkle_scalar(w, size, 0, steps))
 }
 
 fn groups(rt: &impl Print, w: [u32; 16], steps: u32) -> io::Result<()> {
-    print!(rt; "groups")?;
-    print_number(rt, 16)?;
-    print_number(rt, steps as u64)?;
+    print!(rt; "groups 16 {steps}")?;
     print_words(rt, sparkle::sse2::sparkle_opt16(w, steps))
 }
 
-fn one_size(rt: &impl Print, w: [u32; 16], size: StateWords, words: u64) -> io::Result<()> {
-    scalar(rt, w, size, words, 0)?;
-    scalar(rt, w, size, words, 1)?;
-    scalar(rt, w, size, words, 2)?;
-    scalar(rt, w, size, words, 7)?;
-    scalar(rt, w, size, words, 8)?;
-    scalar(rt, w, size, words, 10)?;
-    scalar(rt, w, size, words, 11)?;
-    scalar(rt, w, size, words, 12)?;
-    scalar(rt, w, size, words, 17)
-}
-
-fn both(rt: &impl Print, w: [u32; 16], steps: u32) -> io::Result<()> {
-    scalar(rt, w, StateWords::Words16, 16, steps)?;
-    groups(rt, w, steps)
-}
-
-fn sixteen(rt: &impl Print, w: [u32; 16]) -> io::Result<()> {
-    both(rt, w, 0)?;
-    both(rt, w, 1)?;
-    both(rt, w, 2)?;
-    both(rt, w, 7)?;
-    both(rt, w, 8)?;
-    both(rt, w, 10)?;
-    both(rt, w, 11)?;
-    both(rt, w, 12)?;
-    both(rt, w, 17)
-}
-
-fn all(rt: &impl Print, w: [u32; 16]) -> io::Result<()> {
-    one_size(rt, w, StateWords::Words8, 8)?;
-    one_size(rt, w, StateWords::Words12, 12)?;
-    sixteen(rt, w)
+// Each count of steps: in both forms where the state has 16 words.
+fn each_count(rt: &impl Print, w: [u32; 16], size: StateWords) -> io::Result<()> {
+    for steps in COUNTS {
+        scalar(rt, w, size, steps)?;
+        if let StateWords::Words16 = size {
+            groups(rt, w, steps)?;
+        }
+    }
+    Ok(())
 }
 
 // `count` steps from the step `first` on.
-fn from(
-    rt: &impl Print,
-    w: [u32; 16],
-    size: StateWords,
-    words: u64,
-    first: u32,
-    count: u32,
-) -> io::Result<()> {
-    print!(rt; "from")?;
-    print_number(rt, words)?;
-    print_number(rt, first as u64)?;
-    print_number(rt, count as u64)?;
+fn from(rt: &impl Print, w: [u32; 16], size: StateWords, first: u32, count: u32) -> io::Result<()> {
+    print!(rt; "from {} {first} {count}", size.count())?;
     print_words(rt, sparkle::scalar::sparkle_scalar(w, size, first, count))
 }
 
@@ -125,14 +99,10 @@ fn midway(
     rt: &impl Print,
     w: [u32; 16],
     size: StateWords,
-    words: u64,
     first: u32,
     count: u32,
 ) -> io::Result<()> {
-    print!(rt; "midway")?;
-    print_number(rt, words)?;
-    print_number(rt, first as u64)?;
-    print_number(rt, count as u64)?;
+    print!(rt; "midway {} {first} {count}", size.count())?;
     let begun = sparkle::scalar::sparkle_scalar(w, size, 0, first);
     print_words(
         rt,
@@ -141,14 +111,7 @@ fn midway(
 }
 
 // A run of `count` steps in parts of at most `most`, as the head of `sparkle_parts` shows.
-fn parts(
-    rt: &impl Print,
-    w: [u32; 16],
-    size: StateWords,
-    words: u64,
-    count: u32,
-    most: u32,
-) -> io::Result<()>
+fn parts(rt: &impl Print, w: [u32; 16], size: StateWords, count: u32, most: u32) -> io::Result<()>
     requires { 0 < most }
 {
     let mut run = PartialRun {
@@ -158,50 +121,30 @@ fn parts(
         left: count,
     };
     while 0 < run.left {
-        run = sparkle_parts::advance(run, most);
-        print!(rt; "part")?;
-        print_number(rt, words)?;
-        print_number(rt, run.next as u64)?;
-        print_number(rt, run.left as u64)?;
-        let after = run.words;
-        print_words(rt, after)?;
+        run = run.advance(most);
+        print!(rt; "part {} {} {}", size.count(), run.next, run.left)?;
+        print_words(rt, run.words)?;
     }
     Ok(())
 }
 
-fn picked_up(rt: &impl Print, w: [u32; 16], size: StateWords, words: u64) -> io::Result<()> {
-    midway(rt, w, size, words, 1, 6)?;
-    midway(rt, w, size, words, 2, 8)?;
-    midway(rt, w, size, words, 7, 5)?;
-    midway(rt, w, size, words, 8, 9)?;
-    midway(rt, w, size, words, 12, 5)
-}
-
-fn picked_up_in_each_size(rt: &impl Print, w: [u32; 16]) -> io::Result<()> {
-    picked_up(rt, w, StateWords::Words8, 8)?;
-    picked_up(rt, w, StateWords::Words12, 12)?;
-    picked_up(rt, w, StateWords::Words16, 16)
-}
-
-fn far_from_step_0(rt: &impl Print, w: [u32; 16]) -> io::Result<()> {
-    from(rt, w, StateWords::Words8, 8, 0xffff_ffff, 2)?;
-    from(rt, w, StateWords::Words12, 12, 0x1234_5678, 5)?;
-    from(rt, w, StateWords::Words12, 12, 0xffff_fffd, 7)?;
-    from(rt, w, StateWords::Words16, 16, 0x8000_0000, 4)?;
-    from(rt, w, StateWords::Words16, 16, 0xffff_fffe, 3)
-}
-
 fn main(rt: HostRuntime) -> io::Result<()> {
-    all(&rt, ZEROS)?;
-    all(&rt, PLACES)?;
-    all(&rt, ONES)?;
-    all(&rt, MULTIPLES)?;
-    picked_up_in_each_size(&rt, ZEROS)?;
-    picked_up_in_each_size(&rt, PLACES)?;
-    picked_up_in_each_size(&rt, ONES)?;
-    picked_up_in_each_size(&rt, MULTIPLES)?;
-    far_from_step_0(&rt, PLACES)?;
-    parts(&rt, MULTIPLES, StateWords::Words8, 8, 11, 1)?;
-    parts(&rt, MULTIPLES, StateWords::Words12, 12, 17, 3)?;
-    parts(&rt, MULTIPLES, StateWords::Words16, 16, 12, 5)
+    for w in STATES {
+        for size in SIZES {
+            each_count(&rt, w, size)?;
+        }
+    }
+    for w in STATES {
+        for size in SIZES {
+            for (first, count) in PICKED_UP {
+                midway(&rt, w, size, first, count)?;
+            }
+        }
+    }
+    for (size, first, count) in FAR {
+        from(&rt, PLACES, size, first, count)?;
+    }
+    parts(&rt, MULTIPLES, StateWords::Words8, 11, 1)?;
+    parts(&rt, MULTIPLES, StateWords::Words12, 17, 3)?;
+    parts(&rt, MULTIPLES, StateWords::Words16, 12, 5)
 }

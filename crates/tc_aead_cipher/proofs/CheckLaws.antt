@@ -1,28 +1,26 @@
 -- The laws of the checks: under which hypothesis a definition of `specs.Checks` gives which answer.
-use mathlib.Core.Path.{◌≡◌, refl, sym, ap, ◌∙◌}
+use mathlib.Core.Path.{◌≡◌, refl, ap}
 use mathlib.Core.Bool.{Bool, true, false, cond}
 use Prim.Native.Nat.{ℕ, suc, ◌+◌, ◌-◌, ◌*◌, ◌^◌, ◌≤◌, ◌<◌}
 use native.Mathlib.Omega.{arith}
 use native.Mathlib.Decide.{ℕ_discrete}
 use lib.Dec.{eqb}
 use borrow.Author.Tests.{lt-ltb, le-ltb, eq-eqb, ne_eqb, eqb-true, eqb-false}
+use Rattle.std.specs.Prelude.{Result, Ok, Err}
 use Rattle.schwaemm.specs.Blocks.{ready}
 use Rattle.schwaemm.specs.Schwaemm.{Params}
-use Rattle.tc_aead_cipher.specs.Checks.{opens, opening, held_data, keep, then, within64, update_len, total_len, phase_check, room, whole, data_check, end_check, start_check, aad_check, header_check}
+use Rattle.tc_aead_cipher.specs.Checks.{opens, opening, held_data, keep, within64, update_len, total_len, start_check, aad_check, header_check}
 use Rattle.tc_aead_cipher.specs.Variant.{params_of}
 use Rattle.tc_aead_cipher.specs.declared.variant.SparkleVariant.{SparkleVariant}
 use Rattle.tc_aead_cipher.specs.declared.phase.Direction.{Direction}
 use Rattle.tc_aead_cipher.specs.declared.phase.Direction.TheVariants.{Encrypt, Decrypt}
 use Rattle.tc_aead_cipher.specs.declared.phase.Phase.{Phase}
 use Rattle.tc_aead_cipher.specs.declared.aead_error.AeadError.{AeadError}
-use Rattle.tc_aead_cipher.specs.declared.aead_error.AeadError.TheVariants.{CiphertextTooShort, InputTooLong}
-use Rattle.tc_aead_cipher.specs.declared.aead_error.AeadResult.{AeadResult}
-use Rattle.tc_aead_cipher.specs.declared.aead_error.AeadResult.TheVariants.{Ok, Err}
+use Rattle.tc_aead_cipher.specs.declared.aead_error.AeadError.TheVariants.{InputTooLong}
 use Rattle.tc_aead_cipher.specs.declared.aead_init_error.AeadInitError.{AeadInitError}
 use Rattle.tc_aead_cipher.specs.declared.aead_init_error.AeadInitError.TheVariants.{InvalidKeyLength, InvalidNonceLength, InvalidMacSize, NonceReuse}
-use Rattle.tc_aead_cipher.specs.declared.aead_init_error.AeadInitResult.TheVariants.{Ok as Started, Err as Refused}
 
-cond_same : (b : Bool) {x : AeadResult} → cond b x x ≡ x
+cond_same : (b : Bool) {x : Result ℕ AeadError} → cond b x x ≡ x
 cond_same true = refl
 cond_same false = refl
 
@@ -68,27 +66,27 @@ module _ (p : Params) (phase : Phase) (held n : ℕ) where
 
 module _ (v : SparkleVariant) (direction : Direction) (key nonce size : ℕ) (repeats : Bool) where
   -- A start: 1, 2, 3 in this order; what is left is the direction's and the pair's to say.
-  pub start_check-key : (key ≡ (params_of v).key → ⊥) → start_check v direction key nonce size repeats ≡ Refused (InvalidKeyLength key)
+  pub start_check-key : (key ≡ (params_of v).key → ⊥) → start_check v direction key nonce size repeats ≡ Err (InvalidKeyLength key)
   unfolding start_check
   start_check-key wrong = rw (ne_eqb _ _ wrong) refl
 
   pub start_check-nonce : key ≡ (params_of v).key → (nonce ≡ (params_of v).rate → ⊥)
-      → start_check v direction key nonce size repeats ≡ Refused (InvalidNonceLength nonce)
+      → start_check v direction key nonce size repeats ≡ Err (InvalidNonceLength nonce)
   unfolding start_check
   start_check-nonce k wrong = rw (eq-eqb _ _ k, ne_eqb _ _ wrong) refl
 
   pub start_check_size : key ≡ (params_of v).key → nonce ≡ (params_of v).rate → (size ≡ (params_of v).key → ⊥)
-      → start_check v direction key nonce size repeats ≡ Refused (InvalidMacSize size)
+      → start_check v direction key nonce size repeats ≡ Err (InvalidMacSize size)
   unfolding start_check
   start_check_size k n wrong = rw (eq-eqb _ _ k, eq-eqb _ _ n, ne_eqb _ _ wrong) refl
 
   module _ (k : key ≡ (params_of v).key) (n : nonce ≡ (params_of v).rate) (s : size ≡ (params_of v).key) where
-    pub start_check-opening : opens direction ≡ true → start_check v direction key nonce size repeats ≡ Started
+    pub start_check-opening : opens direction ≡ true → start_check v direction key nonce size repeats ≡ Ok tt
     unfolding start_check
     start_check-opening is-opening = rw (eq-eqb _ _ k, eq-eqb _ _ n, eq-eqb _ _ s, is-opening) refl
 
     pub start_check-sealing : opens direction ≡ false
-        → start_check v direction key nonce size repeats ≡ cond repeats (Refused NonceReuse) Started
+        → start_check v direction key nonce size repeats ≡ cond repeats (Err NonceReuse) (Ok tt)
     unfolding start_check
     start_check-sealing is-sealing = rw (eq-eqb _ _ k, eq-eqb _ _ n, eq-eqb _ _ s, is-sealing) refl
 
@@ -96,10 +94,10 @@ module _ (v : SparkleVariant) (direction : Direction) (key nonce size : ℕ) (re
 -- sealing past the other checks gets 11 exactly where its pair repeats.
 pub data StartCase (v : SparkleVariant) (key nonce size : ℕ) : Direction → Type 0 where
   refused-before : {d : Direction} (x : AeadInitError) → (x ≡ NonceReuse → ⊥)
-      → ((repeats : Bool) → start_check v d key nonce size repeats ≡ Refused x) → StartCase v key nonce size d
-  opens_always : ((repeats : Bool) → start_check v Decrypt key nonce size repeats ≡ Started)
+      → ((repeats : Bool) → start_check v d key nonce size repeats ≡ Err x) → StartCase v key nonce size d
+  opens_always : ((repeats : Bool) → start_check v Decrypt key nonce size repeats ≡ Ok tt)
       → StartCase v key nonce size Decrypt
-  seals_by_pair : ((repeats : Bool) → start_check v Encrypt key nonce size repeats ≡ cond repeats (Refused NonceReuse) Started)
+  seals_by_pair : ((repeats : Bool) → start_check v Encrypt key nonce size repeats ≡ cond repeats (Err NonceReuse) (Ok tt))
       → StartCase v key nonce size Encrypt
 
 module _ (v : SparkleVariant) (key nonce size : ℕ) where
@@ -130,56 +128,9 @@ module _ (v : SparkleVariant) (key nonce size : ℕ) where
           (λ repeats. start_check-key v d key nonce size repeats wrong)
       by_key (yes k) = by-nonce k (ℕ_discrete nonce (params_of v).rate)
 
--- ---- An end's check, from what its parts answer.
-module _ (p : Params) (phase : Phase) (held available : ℕ) (first : AeadResult) (ef : first ≡ phase_check phase) where
-  pub end_check-refused : (x : AeadError) → first ≡ Err x → first ≡ end_check p phase held available
-  unfolding end_check
-  end_check-refused x answered =
-      answered
-      ∙ ap (λ (k : AeadResult). then k (λ _. then (then (total_len p phase held 0) (room available)) (whole p phase held)))
-      (sym answered ∙ ef)
-
-  module _ (m : ℕ) (passed : first ≡ Ok m) (sized : AeadResult) (total : AeadResult) (et : total ≡ total_len p phase held 0)
-      (es : sized ≡ then total (room available)) where
-    by_size : (k : AeadResult) → sized ≡ k → then k (whole p phase held) ≡ end_check p phase held available
-    unfolding end_check
-    by_size k answered =
-        ap (λ (x : AeadResult). then x (whole p phase held))
-        (sym answered ∙ es ∙ ap (λ (x : AeadResult). then x (room available)) et)
-        ∙ ap (λ (x : AeadResult). then x (λ _. then (then (total_len p phase held 0) (room available)) (whole p phase held)))
-        (sym passed ∙ ef)
-
-    pub end_check_unsized : (x : AeadError) → sized ≡ Err x → sized ≡ end_check p phase held available
-    end_check_unsized x answered = answered ∙ by_size (Err x) answered
-
-    module _ (n : ℕ) (answered : sized ≡ Ok n) where
-      pub end_check-sealing : opening phase ≡ false → sized ≡ end_check p phase held available
-      end_check-sealing seals = answered ∙ rw (← by_size (Ok n) answered, seals) refl
-
-      module _ (opens : opening phase ≡ true) (minimum actual : ℕ) (em : minimum ≡ p.key) (ea : actual ≡ held_data p phase held) where
-        pub end_check_short : actual < minimum → Err (CiphertextTooShort minimum actual) ≡ end_check p phase held available
-        end_check_short short = rw (← by_size (Ok n) answered, ← ea, ← em, opens, lt-ltb _ _ short) refl
-
-        pub end_check-whole : minimum ≤ actual → sized ≡ end_check p phase held available
-        end_check-whole enough = answered ∙ rw (← by_size (Ok n) answered, ← ea, ← em, opens, le-ltb _ _ enough) refl
-
--- ---- A data call's check.
-module _ (p : Params) (phase : Phase) (held n available : ℕ) (first : AeadResult) (ef : first ≡ phase_check phase) where
-  pub data_check-refused : (x : AeadError) → first ≡ Err x → first ≡ data_check p phase held n available
-  unfolding data_check
-  data_check-refused x answered =
-      answered ∙ ap (λ (k : AeadResult). then k (λ _. then (update_len p phase held n) (room available))) (sym answered ∙ ef)
-
-  pub data_check_sized : (m : ℕ) → first ≡ Ok m → (length sized : AeadResult) → length ≡ update_len p phase held n
-      → sized ≡ then length (room available) → sized ≡ data_check p phase held n available
-  unfolding data_check
-  data_check_sized m passed length sized el es =
-      es ∙ ap (λ (k : AeadResult). then k (room available)) el
-      ∙ ap (λ (k : AeadResult). then k (λ _. then (update_len p phase held n) (room available))) (sym passed ∙ ef)
-
 -- a passed check: key and nonce have the variant's lengths
 module _ (v : SparkleVariant) (direction : Direction) (key nonce size : ℕ) (again : Bool)
-    (passed : start_check v direction key nonce size again ≡ Started) where
+    (passed : start_check v direction key nonce size again ≡ Ok tt) where
   key-by : (t : Bool) → eqb key (params_of v).key ≡ t → key ≡ (params_of v).key
   key-by true e = eqb-true key (params_of v).key e
   key-by false e =

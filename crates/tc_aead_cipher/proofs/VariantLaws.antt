@@ -2,8 +2,9 @@
 -- names it.
 use mathlib.Core.Path.{◌≡◌, refl}
 use mathlib.Core.Bool.{Bool, true, false, cond}
-use Prim.Native.Nat.{ℕ, ◌≤◌}
+use Prim.Native.Nat.{ℕ, zero, suc, ◌≤◌}
 use native.Mathlib.Omega.{arith}
+use borrow.Author.Tests.{ne_eqb}
 use Rattle.schwaemm.specs.Schwaemm.{Params, Sizes}
 use Rattle.schwaemm.proofs.Variants.{sizes128_128, sizes256_128, sizes192_192, sizes256_256}
 use Rattle.tc_aead_cipher.specs.Variant.{params_of, number, is_variant, variant_of}
@@ -51,3 +52,13 @@ variant_of_number Schwaemm128_128 = refl
 variant_of_number Schwaemm256_128 = refl
 variant_of_number Schwaemm192_192 = refl
 variant_of_number Schwaemm256_256 = refl
+
+pub no_variant_last : (n : ℕ) → is_variant n ≡ false → variant_of n ≡ Schwaemm256_256
+unfolding is_variant variant_of
+no_variant_last zero e = refl
+no_variant_last (suc zero) e = cc
+no_variant_last (suc (suc zero)) e = cc
+no_variant_last (suc (suc (suc zero))) e = cc
+no_variant_last (suc (suc (suc (suc n)))) e =
+    let m = suc (suc (suc (suc n))) in
+    rw (ne_eqb m 1 (λ q. omega arith), ne_eqb m 2 (λ q. omega arith), ne_eqb m 3 (λ q. omega arith)) refl

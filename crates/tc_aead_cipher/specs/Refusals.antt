@@ -4,6 +4,8 @@ use Rattle.tc_aead_cipher.specs.declared.aead_error.AeadError.{AeadError}
 use Rattle.tc_aead_cipher.specs.declared.aead_error.AeadError.TheVariants.{NotInitialized, AadAfterData, AlreadyFinalized, OutputTooShort, CiphertextTooShort, AuthenticationFailed, InputTooLong}
 use Rattle.tc_aead_cipher.specs.declared.aead_init_error.AeadInitError.{AeadInitError}
 use Rattle.tc_aead_cipher.specs.declared.aead_init_error.AeadInitError.TheVariants.{InvalidKeyLength, InvalidNonceLength, InvalidMacSize, NonceReuse}
+use Rattle.tc_aead_cipher.specs.declared.refusal.Refusal.{Refusal}
+use Rattle.tc_aead_cipher.specs.declared.refusal.Refusal.TheVariants.{Start, Call, Line}
 
 -- A refusal as a sheet has it: its number, then its values.
 abbrev pub refusal : AeadError → List ℕ
@@ -24,3 +26,9 @@ init_refusal NonceReuse = 11 ∷ []
 -- Document 02, 2026-01: a call list that is too long (line 0), or the first of its lines that is wrong.
 abbrev pub line_refusal : (line : ℕ) → List ℕ
 line_refusal line = 12 ∷ (line ∷ [])
+
+-- The same of a refusal of any kind.
+abbrev pub numbers_of : Refusal → List ℕ
+numbers_of (Start x) = init_refusal x
+numbers_of (Call x) = refusal x
+numbers_of (Line line) = line_refusal line

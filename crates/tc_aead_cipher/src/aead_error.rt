@@ -1,7 +1,8 @@
 // The refusals of a message's calls (the Rust's aead_error.rs, without the names that this engine
-// never gives), and the answer of such a call. Document 01's numbers are `refusal`'s.
+// never gives). Such a call answers a `Result<usize, AeadError>`; of a header call, which counts nothing,
+// the count is 0. Document 01's numbers are `reply.rt`'s.
 
-#[derive(Clone, Copy)]
+#[derive(Clone, Copy, Debug, PartialEq, Eq)]
 pub enum AeadError {
     NotInitialized,
     AadAfterData,
@@ -10,11 +11,4 @@ pub enum AeadError {
     CiphertextTooShort { minimum: usize, actual: usize },
     AuthenticationFailed,
     InputTooLong,
-}
-
-// The Rust's `Result<usize, AeadError>`; of a header call, which counts nothing, the count is 0.
-#[derive(Clone, Copy)]
-pub enum AeadResult {
-    Ok(usize),
-    Err(AeadError),
 }

@@ -1,27 +1,23 @@
 // The checks, as decisions of their own, and the length queries over phase and numbers: document
 // 01's tables ("At the entry: phase and call"), and document 02's checks of a packet that is opened
 // whole. Sums are compared by subtraction.
-ghost use Rattle.std.specs.Prelude.{◌≡◌, ◌-◌, min};
+ghost use Rattle.std.specs.Prelude.{◌≡◌};
 ghost use Rattle.tc_aead_cipher.specs.Variant.{params_of};
-ghost use Rattle.tc_aead_cipher.specs.Checks.{opens, direction_of, opening, held_data, keep, then, update_len, total_len, phase_check, room, header_check, data_check, end_check, start_check};
+ghost use Rattle.tc_aead_cipher.specs.Checks.{opens, direction_of, opening, held_data, keep, update_len, total_len, phase_check, room, header_check, data_check, end_check, start_check};
 ghost use Rattle.tc_aead_cipher.specs.PacketCheck.{packet_check};
-ghost use Rattle.tc_aead_cipher.specs.Reply.{reply_of};
+ghost use Rattle.tc_aead_cipher.specs.Outcome.{answered};
 ghost use Rattle.schwaemm.specs.Blocks.{ready};
 
-use super::aead_error::{AeadError, AeadResult};
-use super::aead_init_error::{AeadInitError, AeadInitResult};
+use super::aead_error::AeadError;
+use super::aead_init_error::AeadInitError;
 use super::phase::{Direction, Phase};
-use super::reply;
-use super::reply::Reply;
+use super::refusal::Refusal;
 use super::variant::SparkleVariant;
 
 fn opens(d: Direction) -> bool
     ensures { result ≡ opens d }
 {
-    match d {
-        Direction::Encrypt => false,
-        Direction::Decrypt => true,
-    }
+    matches!(d, Direction::Decrypt)
 }
 
 // The direction of a phase; `Uninitialized`, which has none, counts as sealing.
@@ -30,10 +26,7 @@ pub fn direction(phase: Phase) -> Direction
 {
     match phase {
         Phase::Uninitialized => Direction::Encrypt,
-        Phase::Init(d) => d,
-        Phase::Aad(d) => d,
-        Phase::Data(d) => d,
-        Phase::Final(d) => d,
+        Phase::Init(d) | Phase::Aad(d) | Phase::Data(d) | Phase::Final(d) => d,
     }
 }
 
@@ -44,166 +37,143 @@ pub fn opening(phase: Phase) -> bool
     opens(direction(phase))
 }
 
-// The bytes that stay, besides one more: on an opening the tag's.
-pub fn keep(variant: SparkleVariant, phase: Phase) -> usize
-    ensures { result ≡ keep (params_of variant) phase }
-{
-    if opening(phase) {
-        variant.tag_bytes()
-    } else {
-        0
-    }
-}
-
-// The lesser of two numbers.
-pub fn min(a: usize, b: usize) -> usize
-    ensures { result ≡ min a b }
-{
-    if a < b { a } else { b }
-}
-
-// The held bytes h of document 01: 0 outside Data.
-pub fn held_data(variant: SparkleVariant, phase: Phase, held: usize) -> usize
-    ensures { result ≡ held_data (params_of variant) phase held }
-{
-    match phase {
-        Phase::Uninitialized => 0,
-        Phase::Init(_) => 0,
-        Phase::Aad(_) => 0,
-        Phase::Data(_) => min(held, keep(variant, phase) + variant.nonce_bytes()),
-        Phase::Final(_) => 0,
-    }
-}
-
-// a - b, never under 0.
-fn saturating_sub(a: usize, b: usize) -> usize
-    ensures { result ≡ a - b }
-{
-    if a < b { 0 } else { a - b }
-}
-
 // How many blocks of n bytes go while `keep` bytes and one more stay.
+#[tactic(auto, unfolding(schwaemm::specs::Blocks::ready))]
 pub fn block_count(variant: SparkleVariant, keep: usize, n: usize) -> usize
     ensures { result ≡ ready (params_of variant).rate keep n }
 {
-    saturating_sub(saturating_sub(n, keep), 1) / variant.nonce_bytes()
+    n.saturating_sub(keep).saturating_sub(1) / variant.nonce_bytes()
 }
 
-// The length that a data call of n bytes writes.
-pub fn update_len(variant: SparkleVariant, phase: Phase, held: usize, n: usize) -> AeadResult
-    ensures { result ≡ update_len (params_of variant) phase held n }
-{
-    let h = held_data(variant, phase, held);
-    if usize::MAX - h < n {
-        return AeadResult::Err(AeadError::InputTooLong);
-    }
-    let count = block_count(variant, keep(variant, phase), h + n);
-    let written = count * variant.nonce_bytes();
-    AeadResult::Ok(written)
-}
-
-// The length that data calls of n bytes and the end write together.
-pub fn total_len(variant: SparkleVariant, phase: Phase, held: usize, n: usize) -> AeadResult
-    ensures { result ≡ total_len (params_of variant) phase held n }
-{
-    let h = held_data(variant, phase, held);
-    if usize::MAX - h < n {
-        return AeadResult::Err(AeadError::InputTooLong);
-    }
-    let tag = variant.tag_bytes();
-    let sum = h + n;
-    if opening(phase) {
-        return AeadResult::Ok(saturating_sub(sum, tag));
-    }
-    if usize::MAX - tag < sum {
-        return AeadResult::Err(AeadError::InputTooLong);
-    }
-    AeadResult::Ok(sum + tag)
-}
-
-// Whether a phase takes data and an end.
-fn phase_check(phase: Phase) -> AeadResult
+// Whether a phase takes data and an end. This check and the one of a header count 0 where the call is taken,
+// which is what a header call answers.
+fn phase_check(phase: Phase) -> Result<usize, AeadError>
     ensures { result ≡ phase_check phase }
 {
     match phase {
-        Phase::Uninitialized => AeadResult::Err(AeadError::NotInitialized),
-        Phase::Init(_) => AeadResult::Ok(0),
-        Phase::Aad(_) => AeadResult::Ok(0),
-        Phase::Data(_) => AeadResult::Ok(0),
-        Phase::Final(_) => AeadResult::Err(AeadError::AlreadyFinalized),
+        Phase::Uninitialized => Err(AeadError::NotInitialized),
+        Phase::Init(_) | Phase::Aad(_) | Phase::Data(_) => Ok(0),
+        Phase::Final(_) => Err(AeadError::AlreadyFinalized),
     }
 }
 
-// The length that a query gave, where the output holds it.
-fn with_room(length: AeadResult, available: usize) -> AeadResult
-    ensures { result ≡ then length (room available) }
+// The required length, where the output holds it.
+fn with_room(required: usize, available: usize) -> Result<usize, AeadError>
+    ensures { result ≡ room available required }
 {
-    let AeadResult::Ok(required) = length else {
-        return length;
-    };
     if available < required {
-        return AeadResult::Err(AeadError::OutputTooShort {
+        return Err(AeadError::OutputTooShort {
             required,
             available,
         });
     }
-    length
+    Ok(required)
 }
 
 // Whether a phase takes a header that is not empty.
-pub fn header_check(phase: Phase) -> AeadResult
+pub fn header_check(phase: Phase) -> Result<usize, AeadError>
     ensures { result ≡ header_check phase }
 {
     match phase {
-        Phase::Uninitialized => AeadResult::Err(AeadError::NotInitialized),
-        Phase::Init(_) => AeadResult::Ok(0),
-        Phase::Aad(_) => AeadResult::Ok(0),
-        Phase::Data(_) => AeadResult::Err(AeadError::AadAfterData),
-        Phase::Final(_) => AeadResult::Err(AeadError::AlreadyFinalized),
+        Phase::Data(_) => Err(AeadError::AadAfterData),
+        _ => phase_check(phase),
     }
 }
 
-// Whether a data call of n bytes into an output of `available` is taken, and what it writes.
-pub fn data_check(
-    variant: SparkleVariant,
-    phase: Phase,
-    held: usize,
-    n: usize,
-    available: usize,
-) -> AeadResult
-    ensures { result ≡ data_check (params_of variant) phase held n available }
-{
-    let answer = phase_check(phase);
-    let AeadResult::Ok(_) = answer else {
-        return answer;
-    };
-    with_room(update_len(variant, phase, held, n), available)
+// What the checks and the length queries look at of a message: its variant, its phase, and how many bytes
+// are held.
+#[derive(Clone, Copy, Debug, PartialEq, Eq)]
+pub struct Held {
+    pub variant: SparkleVariant,
+    pub phase: Phase,
+    pub bytes: usize,
 }
 
-// Whether an end into an output of `available` is taken, and what it writes. An opening must have as
-// much ciphertext as a tag.
-pub fn end_check(variant: SparkleVariant, phase: Phase, held: usize, available: usize) -> AeadResult
-    ensures { result ≡ end_check (params_of variant) phase held available }
-{
-    let answer = phase_check(phase);
-    let AeadResult::Ok(_) = answer else {
-        return answer;
-    };
-    let length = with_room(total_len(variant, phase, held, 0), available);
-    let AeadResult::Ok(_) = length else {
-        return length;
-    };
-    if opening(phase) {
-        let minimum = variant.tag_bytes();
-        let actual = held_data(variant, phase, held);
-        if actual < minimum {
-            return AeadResult::Err(AeadError::CiphertextTooShort { minimum, actual });
+impl Held {
+    // The bytes that stay, besides one more: on an opening the tag's.
+    pub fn keep(self) -> usize
+        ensures { result ≡ keep (params_of self.variant) self.phase }
+    {
+        if opening(self.phase) {
+            self.variant.tag_bytes()
+        } else {
+            0
         }
     }
-    length
+
+    // The held bytes h of document 01: 0 outside Data.
+    pub fn data(self) -> usize
+        ensures { result ≡ held_data (params_of self.variant) self.phase self.bytes }
+    {
+        match self.phase {
+            Phase::Data(_) => self.bytes.min(self.keep() + self.variant.nonce_bytes()),
+            Phase::Uninitialized | Phase::Init(_) | Phase::Aad(_) | Phase::Final(_) => 0,
+        }
+    }
+
+    // The length that a data call of n bytes writes.
+    #[tactic(auto, using(schwaemm::proofs::Cut::ready_bound), unfolding(crate::specs::Checks::update_len))]
+    pub fn update_len(self, n: usize) -> Result<usize, AeadError>
+        ensures { result ≡ update_len (params_of self.variant) self.phase self.bytes n }
+    {
+        let h = self.data();
+        if usize::MAX - h < n {
+            return Err(AeadError::InputTooLong);
+        }
+        let count = block_count(self.variant, self.keep(), h + n);
+        Ok(count * self.variant.nonce_bytes())
+    }
+
+    // The length that data calls of n bytes and the end write together.
+    #[tactic(auto, unfolding(crate::specs::Checks::total_len))]
+    pub fn total_len(self, n: usize) -> Result<usize, AeadError>
+        ensures { result ≡ total_len (params_of self.variant) self.phase self.bytes n }
+    {
+        let h = self.data();
+        if usize::MAX - h < n {
+            return Err(AeadError::InputTooLong);
+        }
+        let tag = self.variant.tag_bytes();
+        let sum = h + n;
+        if opening(self.phase) {
+            return Ok(sum.saturating_sub(tag));
+        }
+        if usize::MAX - tag < sum {
+            return Err(AeadError::InputTooLong);
+        }
+        Ok(sum + tag)
+    }
+
+    // Whether a data call of n bytes into an output of `available` is taken, and what it writes.
+    #[tactic(auto, unfolding(crate::specs::Checks::data_check))]
+    pub fn data_check(self, n: usize, available: usize) -> Result<usize, AeadError>
+        ensures { result ≡ data_check (params_of self.variant) self.phase self.bytes n available }
+    {
+        phase_check(self.phase)?;
+        with_room(self.update_len(n)?, available)
+    }
+
+    // Whether an end into an output of `available` is taken, and what it writes. An opening must have as
+    // much ciphertext as a tag.
+    #[tactic(auto, unfolding(crate::specs::Checks::end_check))]
+    pub fn end_check(self, available: usize) -> Result<usize, AeadError>
+        ensures { result ≡ end_check (params_of self.variant) self.phase self.bytes available }
+    {
+        phase_check(self.phase)?;
+        let length = with_room(self.total_len(0)?, available)?;
+        if opening(self.phase) {
+            let minimum = self.variant.tag_bytes();
+            let actual = self.data();
+            if actual < minimum {
+                return Err(AeadError::CiphertextTooShort { minimum, actual });
+            }
+        }
+        Ok(length)
+    }
 }
 
 // Whether a start is taken. `repeats` says whether its key and nonce are the last loaded pair.
+#[tactic(auto, unfolding(crate::specs::Checks::start_check))]
 pub fn start_check(
     variant: SparkleVariant,
     direction: Direction,
@@ -211,50 +181,44 @@ pub fn start_check(
     nonce: usize,
     size: usize,
     repeats: bool,
-) -> AeadInitResult
+) -> Result<(), AeadInitError>
     ensures { result ≡ start_check variant direction key nonce size repeats }
 {
     if key != variant.key_bytes() {
-        return AeadInitResult::Err(AeadInitError::InvalidKeyLength { actual: key });
+        return Err(AeadInitError::InvalidKeyLength { actual: key });
     }
     if nonce != variant.nonce_bytes() {
-        return AeadInitResult::Err(AeadInitError::InvalidNonceLength { actual: nonce });
+        return Err(AeadInitError::InvalidNonceLength { actual: nonce });
     }
     if size != variant.tag_bytes() {
-        return AeadInitResult::Err(AeadInitError::InvalidMacSize { actual: size });
+        return Err(AeadInitError::InvalidMacSize { actual: size });
     }
-    if opens(direction) {
-        return AeadInitResult::Ok;
+    if repeats && !opens(direction) {
+        return Err(AeadInitError::NonceReuse);
     }
-    if repeats {
-        AeadInitResult::Err(AeadInitError::NonceReuse)
-    } else {
-        AeadInitResult::Ok
-    }
+    Ok(())
 }
 
 // Whether a packet may be opened whole, by its lengths and the output's room, and how many bytes that
 // writes (document 02, 2026-03). The tag's size is the variant's, and an opening's pair may repeat, so of a start
 // only 1 and 2 are left.
+#[tactic(auto, unfolding(crate::specs::Checks::start_check, crate::specs::PacketCheck::packet_check))]
 pub fn packet_check(
     variant: SparkleVariant,
     key: usize,
     nonce: usize,
     packet: usize,
     room: usize,
-) -> Reply
-    ensures { result ≡ reply_of (packet_check (params_of variant) key nonce packet room) }
+) -> Result<usize, Refusal>
+    ensures { answered result ≡ packet_check (params_of variant) key nonce packet room }
 {
     let minimum = variant.tag_bytes();
-    let start = start_check(variant, Direction::Decrypt, key, nonce, minimum, false);
-    let AeadInitResult::Ok = start else {
-        return reply::start_reply_of(start);
-    };
+    start_check(variant, Direction::Decrypt, key, nonce, minimum, false)?;
     if packet < minimum {
-        return reply::refusal(AeadError::CiphertextTooShort {
+        return Err(Refusal::Call(AeadError::CiphertextTooShort {
             minimum,
             actual: packet,
-        });
+        }));
     }
-    reply::reply_of(with_room(AeadResult::Ok(packet - minimum), room))
+    Ok(with_room(packet - minimum, room)?)
 }

@@ -8,5 +8,6 @@ pub mod aead_init_error;
 pub mod call;
 pub mod checks;
 pub mod phase;
+pub mod refusal;
 pub mod reply;
 pub mod variant;

@@ -1,13 +1,13 @@
 // The phases of a message (document 01, "At the entry: phase and call"; the Rust's `State`, whose
 // nine cases are a phase with a direction inside).
 
-#[derive(Clone, Copy)]
+#[derive(Clone, Copy, Debug, PartialEq, Eq)]
 pub enum Direction {
     Encrypt,
     Decrypt,
 }
 
-#[derive(Clone, Copy)]
+#[derive(Clone, Copy, Debug, PartialEq, Eq)]
 pub enum Phase {
     Uninitialized,
     Init(Direction),

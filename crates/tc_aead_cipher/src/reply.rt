@@ -1,16 +1,18 @@
 // An answer of the engine as numbers: what a sheet's line has of it, and what crosses to the host.
-ghost use Rattle.std.specs.Prelude.{◌≡◌, [], ◌∷◌};
-ghost use Rattle.tc_aead_cipher.specs.Refusals.{refusal, init_refusal, line_refusal};
-ghost use Rattle.tc_aead_cipher.specs.Outcome.{outcome, start_outcome};
-ghost use Rattle.tc_aead_cipher.specs.Outcome.Outcome.{ok, no};
+ghost use Rattle.std.specs.Prelude.{◌≡◌, ◌≤◌, [], ◌∷◌};
+ghost use Rattle.tc_aead_cipher.specs.Refusals.{refusal, init_refusal};
+ghost use Rattle.tc_aead_cipher.specs.Outcome.{answered};
+ghost use Rattle.tc_aead_cipher.specs.Outcome.Outcome.{no};
 ghost use Rattle.tc_aead_cipher.specs.Reply.{reply_of};
 
-use super::aead_error::{AeadError, AeadResult};
-use super::aead_init_error::{AeadInitError, AeadInitResult};
+use super::aead_error::AeadError;
+use super::aead_init_error::AeadInitError;
+use super::refusal::Refusal;
+use super::variant::UnknownVariant;
 
 // Number 0 and a count, or document 01's number of a refusal and its values. `values` says how many
-// values there are, 1 for a count; a value that there is not is 0.
-#[derive(Clone, Copy)]
+// values there are, 1 for a count, since a value may be 0 itself; one that there is not is 0.
+#[derive(Clone, Copy, Debug, PartialEq, Eq)]
 pub struct Reply {
     pub number: u8,
     pub values: u8,
@@ -18,98 +20,67 @@ pub struct Reply {
     pub second: usize,
 }
 
-fn no_value(number: u8) -> Reply
-    ensures { result ≡ reply_of (no (number ∷ [])) }
+// A number and its values, of which there are at most two.
+fn with_values<const N: usize>(number: u8, values: [usize; N]) -> Reply
+    requires { N ≤ 2 }
+    ensures { result ≡ reply_of (no (number ∷ values.entry)) }
 {
     Reply {
         number,
-        values: 0,
-        first: 0,
-        second: 0,
+        values: N as u8,
+        first: values.get(0).copied().unwrap_or(0),
+        second: values.get(1).copied().unwrap_or(0),
     }
-}
-
-fn one_value(number: u8, first: usize) -> Reply
-    ensures { result ≡ reply_of (no (number ∷ (first ∷ []))) }
-{
-    Reply {
-        number,
-        values: 1,
-        first,
-        second: 0,
-    }
-}
-
-fn two_values(number: u8, first: usize, second: usize) -> Reply
-    ensures { result ≡ reply_of (no (number ∷ (first ∷ (second ∷ [])))) }
-{
-    Reply {
-        number,
-        values: 2,
-        first,
-        second,
-    }
-}
-
-pub fn count(n: usize) -> Reply
-    ensures { result ≡ reply_of (ok n) }
-{
-    one_value(0, n)
 }
 
 // The refusal of a call on a message, or of a length query.
-pub fn refusal(x: AeadError) -> Reply
+fn refusal(x: AeadError) -> Reply
     ensures { result ≡ reply_of (no (refusal x)) }
 {
     match x {
         AeadError::OutputTooShort {
             required,
             available,
-        } => two_values(4, required, available),
-        AeadError::CiphertextTooShort { minimum, actual } => two_values(5, minimum, actual),
-        AeadError::AuthenticationFailed => no_value(6),
-        AeadError::InputTooLong => no_value(7),
-        AeadError::NotInitialized => no_value(8),
-        AeadError::AadAfterData => no_value(9),
-        AeadError::AlreadyFinalized => no_value(10),
+        } => with_values(4, [required, available]),
+        AeadError::CiphertextTooShort { minimum, actual } => with_values(5, [minimum, actual]),
+        AeadError::AuthenticationFailed => with_values(6, []),
+        AeadError::InputTooLong => with_values(7, []),
+        AeadError::NotInitialized => with_values(8, []),
+        AeadError::AadAfterData => with_values(9, []),
+        AeadError::AlreadyFinalized => with_values(10, []),
     }
 }
 
 // The refusal of a start.
-pub fn init_refusal(x: AeadInitError) -> Reply
+fn init_refusal(x: AeadInitError) -> Reply
     ensures { result ≡ reply_of (no (init_refusal x)) }
 {
     match x {
-        AeadInitError::InvalidKeyLength { actual } => one_value(1, actual),
-        AeadInitError::InvalidNonceLength { actual } => one_value(2, actual),
-        AeadInitError::InvalidMacSize { actual } => one_value(3, actual),
-        AeadInitError::NonceReuse => no_value(11),
+        AeadInitError::InvalidKeyLength { actual } => with_values(1, [actual]),
+        AeadInitError::InvalidNonceLength { actual } => with_values(2, [actual]),
+        AeadInitError::InvalidMacSize { actual } => with_values(3, [actual]),
+        AeadInitError::NonceReuse => with_values(11, []),
     }
 }
 
-// The refusal of a call list as text, at a line (document 02, 2026-01).
-pub fn line_refusal(line: usize) -> Reply
-    ensures { result ≡ reply_of (no (line_refusal line)) }
-{
-    one_value(12, line)
-}
+impl From<Result<usize, Refusal>> for Reply {
+    ghost from_gives = { λ a r. r ≡ reply_of (answered a) };
 
-// The answer of a call on a message, or of a length query.
-pub fn reply_of(r: AeadResult) -> Reply
-    ensures { result ≡ reply_of (outcome r) }
-{
-    match r {
-        AeadResult::Ok(n) => count(n),
-        AeadResult::Err(x) => refusal(x),
+    fn from(answer: Result<usize, Refusal>) -> Reply {
+        match answer {
+            Ok(n) => with_values(0, [n]),
+            Err(Refusal::Start(x)) => init_refusal(x),
+            Err(Refusal::Call(x)) => refusal(x),
+            Err(Refusal::Line(line)) => with_values(12, [line]),
+        }
     }
 }
 
-// The answer of a start, which counts nothing.
-pub fn start_reply_of(r: AeadInitResult) -> Reply
-    ensures { result ≡ reply_of (start_outcome r) }
-{
-    match r {
-        AeadInitResult::Ok => count(0),
-        AeadInitResult::Err(x) => init_refusal(x),
+// The refusal of a number that no variant has. The boundary gives it, and no engine (docs/HOST.md).
+impl From<UnknownVariant> for Reply {
+    ghost from_gives = { λ _ r. r ≡ reply_of (no (23 ∷ [])) };
+
+    fn from(_: UnknownVariant) -> Reply {
+        with_values(23, [])
     }
 }

@@ -1,8 +1,8 @@
 // The four parameter sets (the Rust's variant.rs; document 01's table of variants).
 ghost use Rattle.std.specs.Prelude.{◌≡◌};
-ghost use Rattle.tc_aead_cipher.specs.Variant.{params_of, number, is_variant, variant_of};
+ghost use Rattle.tc_aead_cipher.specs.Variant.{params_of, number, is_variant, variant_of, Decodes};
 
-#[derive(Clone, Copy)]
+#[derive(Clone, Copy, Debug, PartialEq, Eq)]
 pub enum SparkleVariant {
     Schwaemm128_128,
     Schwaemm256_128,
@@ -10,25 +10,16 @@ pub enum SparkleVariant {
     Schwaemm256_256,
 }
 
-impl SparkleVariant {
-    // Document 01's number.
-    pub fn number(self) -> u8
-        ensures { result ≡ number self }
-    {
-        match self {
-            SparkleVariant::Schwaemm128_128 => 1,
-            SparkleVariant::Schwaemm256_128 => 2,
-            SparkleVariant::Schwaemm192_192 => 3,
-            SparkleVariant::Schwaemm256_256 => 4,
-        }
-    }
+// A number that no variant has.
+#[derive(Clone, Copy, Debug, PartialEq, Eq)]
+pub struct UnknownVariant(pub u8);
 
+impl SparkleVariant {
     pub fn key_bytes(self) -> usize
         ensures { result ≡ (params_of self).key }
     {
         match self {
-            SparkleVariant::Schwaemm128_128 => 16,
-            SparkleVariant::Schwaemm256_128 => 16,
+            SparkleVariant::Schwaemm128_128 | SparkleVariant::Schwaemm256_128 => 16,
             SparkleVariant::Schwaemm192_192 => 24,
             SparkleVariant::Schwaemm256_256 => 32,
         }
@@ -39,9 +30,8 @@ impl SparkleVariant {
     {
         match self {
             SparkleVariant::Schwaemm128_128 => 16,
-            SparkleVariant::Schwaemm256_128 => 32,
             SparkleVariant::Schwaemm192_192 => 24,
-            SparkleVariant::Schwaemm256_256 => 32,
+            SparkleVariant::Schwaemm256_128 | SparkleVariant::Schwaemm256_256 => 32,
         }
     }
 
@@ -55,9 +45,9 @@ impl SparkleVariant {
         ensures { result ≡ (params_of self).slim }
     {
         match self {
-            SparkleVariant::Schwaemm128_128 => 7,
-            SparkleVariant::Schwaemm256_128 => 7,
-            SparkleVariant::Schwaemm192_192 => 7,
+            SparkleVariant::Schwaemm128_128
+            | SparkleVariant::Schwaemm256_128
+            | SparkleVariant::Schwaemm192_192 => 7,
             SparkleVariant::Schwaemm256_256 => 8,
         }
     }
@@ -67,28 +57,56 @@ impl SparkleVariant {
     {
         match self {
             SparkleVariant::Schwaemm128_128 => 10,
-            SparkleVariant::Schwaemm256_128 => 11,
-            SparkleVariant::Schwaemm192_192 => 11,
+            SparkleVariant::Schwaemm256_128 | SparkleVariant::Schwaemm192_192 => 11,
             SparkleVariant::Schwaemm256_256 => 12,
         }
     }
 }
 
+// Document 01's number.
+impl From<SparkleVariant> for u8 {
+    ghost from_gives = { λ v n. n ≡ number v };
+
+    fn from(v: SparkleVariant) -> u8 {
+        match v {
+            SparkleVariant::Schwaemm128_128 => 1,
+            SparkleVariant::Schwaemm256_128 => 2,
+            SparkleVariant::Schwaemm192_192 => 3,
+            SparkleVariant::Schwaemm256_256 => 4,
+        }
+    }
+}
+
+// The variant of a number.
+impl TryFrom<u8> for SparkleVariant {
+    type Error = UnknownVariant;
+
+    ghost try_from_gives = { Decodes };
+
+    #[tactic(auto, unfolding(crate::specs::Variant::is_variant, crate::specs::Variant::variant_of))]
+    fn try_from(n: u8) -> Result<SparkleVariant, UnknownVariant> {
+        match n {
+            1 => Ok(SparkleVariant::Schwaemm128_128),
+            2 => Ok(SparkleVariant::Schwaemm256_128),
+            3 => Ok(SparkleVariant::Schwaemm192_192),
+            4 => Ok(SparkleVariant::Schwaemm256_256),
+            _ => Err(UnknownVariant(n)),
+        }
+    }
+}
+
 // Whether a variant has the number.
+#[tactic(auto, unfolding(crate::specs::Variant::is_variant))]
 pub fn is_variant(n: u8) -> bool
     ensures { result ≡ is_variant n }
 {
-    if n < 1 { false } else { n <= 4 }
+    SparkleVariant::try_from(n).is_ok()
 }
 
 // The variant of a number; of one that no variant has, the last.
+#[tactic(auto, using(crate::proofs::VariantLaws::no_variant_last))]
 pub fn variant_of(n: u8) -> SparkleVariant
     ensures { result ≡ variant_of n }
 {
-    match n {
-        1 => SparkleVariant::Schwaemm128_128,
-        2 => SparkleVariant::Schwaemm256_128,
-        3 => SparkleVariant::Schwaemm192_192,
-        _ => SparkleVariant::Schwaemm256_256,
-    }
+    SparkleVariant::try_from(n).unwrap_or(SparkleVariant::Schwaemm256_256)
 }

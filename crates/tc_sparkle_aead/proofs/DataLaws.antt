@@ -1,6 +1,6 @@
 -- Laws of data calls, over plain variables: the point and the output after the blocks that go, and what the check of a
 -- data call says of the blocks.
-use Rattle.std.proofs.Common.{◌≡◌, ℕ, ◌+◌, ◌*◌, ◌^◌, ◌≤◌, Bool, true, false, cond, ltb, List, ◌++◌, length, take, drop, sym, refl, ap, ◌∙◌, ap₂, arith, ltb-false}
+use Rattle.std.proofs.Common.{◌≡◌, ℕ, ◌+◌, ◌*◌, ◌^◌, ◌≤◌, Bool, true, false, cond, ltb, List, ◌++◌, length, take, drop, sym, refl, ap, ◌∙◌, ap₂, arith, ltb-false, Result, Ok, Err}
 use Rattle.schwaemm.specs.Blocks.{ready, given}
 use Rattle.schwaemm.specs.Schwaemm.{Params, message_block, crypt}
 use Rattle.tc_aead_cipher.specs.Variant.{params_of}
@@ -11,8 +11,6 @@ use Rattle.tc_aead_cipher.specs.declared.phase.Phase.TheVariants.{Uninitialized,
 use Rattle.tc_aead_cipher.specs.declared.phase.Direction.{Direction}
 use Rattle.tc_aead_cipher.specs.declared.aead_error.AeadError.{AeadError}
 use Rattle.tc_aead_cipher.specs.declared.aead_error.AeadError.TheVariants.{OutputTooShort, InputTooLong}
-use Rattle.tc_aead_cipher.specs.declared.aead_error.AeadResult.{AeadResult}
-use Rattle.tc_aead_cipher.specs.declared.aead_error.AeadResult.TheVariants.{Ok, Err}
 use Rattle.tc_sparkle_aead.specs.declared.engine.SparkleEngine.{SparkleEngine}
 use Rattle.tc_aead_cipher.specs.Checks.{keep, held_data, then, room, update_len, data_check}
 use Rattle.tc_sparkle_aead.specs.Message.{state_in, buffered_count, block_count, plain_of, stream_out, written, without_header, after_header, begin_point, begin_steps, data_from}
@@ -88,16 +86,16 @@ data-room p f (Data d) at q long input available n ok =
 data-room p f (Final d) at q long input available n ok = absurd (let z : ◌≡◌ {A = ℕ} 0 1 = cc in omega arith)
 
 -- a data call by its check: refused, and taken
-module _ (e : SparkleEngine) (input out : List ℕ) (answer : AeadResult)
+module _ (e : SparkleEngine) (input out : List ℕ) (answer : Result ℕ AeadError)
     (checked : answer ≡ data_answer e (length input) (length out)) where
-  pub data-refused : (x : AeadError) → answer ≡ Err x → record { answer = answer; engine = e } ≡ process_bytes e input out
+  pub data_refused : (x : AeadError) → answer ≡ Err x → record { answer = answer; engine = e } ≡ process_bytes e input out
   unfolding process_bytes
-  data-refused x q =
-      (λ i. record { answer = q i; engine = e }) ∙ ap (λ (k : AeadResult). data_by k e input) (sym q ∙ checked)
+  data_refused x q =
+      (λ i. record { answer = q i; engine = e }) ∙ ap (λ (k : Result ℕ AeadError). data_by k e input) (sym q ∙ checked)
 
   pub data_refused_out : (x : AeadError) → answer ≡ Err x → out ≡ process_bytes_out e input out
   unfolding process_bytes_out
-  data_refused_out x q = ap (λ (k : AeadResult). data_out_by k e input out) (sym q ∙ checked)
+  data_refused_out x q = ap (λ (k : Result ℕ AeadError). data_out_by k e input out) (sym q ∙ checked)
 
   module _ (n : ℕ) (accepted : answer ≡ Ok n) (at : Point)
       (begins : at ≡ begin_point (params_of e.variant) e.current.phase e.current) where
@@ -122,11 +120,11 @@ module _ (e : SparkleEngine) (input out : List ℕ) (answer : AeadResult)
         en ∙ ap (λ (k : ℕ). at_point (at_point e x k) done.point done.steps) ef
         ∙ begin_at e e.current.phase x done.point done.steps
         ∙ ap (λ (y : Progress). at_point (begin_by e.current.phase e) y.point y.steps) to in
-        (λ i. record { answer = accepted i; engine = moved i }) ∙ ap (λ (k : AeadResult). data_by k e input) (sym accepted ∙ checked)
+        (λ i. record { answer = accepted i; engine = moved i }) ∙ ap (λ (k : Result ℕ AeadError). data_by k e input) (sym accepted ∙ checked)
 
     pub data_taken_out : (out₁ : List ℕ) → out₁ ≡ written (stream_out (params_of e.variant) at input) out
         → out₁ ≡ process_bytes_out e input out
     unfolding process_bytes_out data_out
     data_taken_out out₁ eo =
         eo ∙ ap₂ (λ (p : Params) (y : Point). written (stream_out p y input) out) params_are point-is
-        ∙ ap (λ (k : AeadResult). data_out_by k e input out) (sym accepted ∙ checked)
+        ∙ ap (λ (k : Result ℕ AeadError). data_out_by k e input out) (sym accepted ∙ checked)

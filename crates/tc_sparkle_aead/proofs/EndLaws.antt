@@ -1,6 +1,8 @@
 -- The end of a message, over plain variables: the last block, the tag and what is written, as the code computes them
 -- piece by piece, are what the definitions of `specs.Message` say.
-use Rattle.std.proofs.Common.{◌≡◌, ℕ, zero, suc, ◌+◌, ◌-◌, ◌<◌, ◌≤◌, Bool, true, false, cond, ltb, List, [], ◌∷◌, ◌++◌, length, take, drop, sym, refl, ap, ◌∙◌, ap₂, arith, length-append, length-take-le, take-take, drop-drop, take_at, take-add, drop_at}
+use Rattle.std.proofs.Common.{◌≡◌, ℕ, ◌+◌, ◌-◌, ◌<◌, ◌≤◌, Bool, true, false, cond, ltb, List, [], ◌∷◌, ◌++◌, length, take, drop, replicate, sym, refl, ap, ◌∙◌, ap₂, arith, length-append, length-take-le, take-take, drop-drop, take_at, take-add, drop_at}
+use Rattle.std.proofs.lemmas.List.{nil_from_length}
+use lib.ListN.{length-replicate}
 use lib.Seq.{paste}
 use Rattle.schwaemm.specs.Bytes.{if_empty, same}
 use Rattle.schwaemm.specs.Schwaemm.{Params, Sizes, crypt, mix_last, tag_of}
@@ -13,7 +15,6 @@ use Rattle.tc_sparkle_aead.specs.declared.message.Mac.{Mac}
 use Rattle.tc_aead_cipher.specs.Variant.{params_of}
 use Rattle.tc_sparkle_aead.specs.Message.{zeros, in_array, no_mac, state_in, put_state, buffered_count, buffered, last_state, last_steps, written, readable, seal_tag, seal_last, open_block, received_tag, open_last, open_tag, seal_end, open_end, open_out}
 use Rattle.tc_aead_cipher.proofs.VariantLaws.{Small, sizes, small}
-use Rattle.tc_sparkle_aead.proofs.Fill.{length-zeros}
 use Rattle.tc_sparkle_aead.proofs.StateLaws.{all-in_array, state_put, put_state_lem, length-state_in}
 use Rattle.tc_sparkle_aead.proofs.CallLaws.{buffered_count_bound}
 
@@ -39,18 +40,15 @@ module _ (p : Params) where
   length-last_state h s [] plain hs = hs
   length-last_state h s (x ∷ block) plain hs = length-mix_last p h 2 s plain
 
-  module _ (words buffer : List ℕ) (n : ℕ) where
-    pub put_last_none : n ≡ 0 → words ≡ put_state p words (last_state p (state_in p words) (take n buffer) (take n buffer))
+  module _ (words b : List ℕ) where
+    pub put_last_none : length b ≡ 0 → words ≡ put_state p words (last_state p (state_in p words) b b)
     unfolding last_state if_empty
-    put_last_none e = rw e (sym (put_state_lem p words))
+    put_last_none e = rw (nil_from_length b e) (sym (put_state_lem p words))
 
-    pub put_last_some : 0 < n → n ≤ length buffer → (r : List ℕ)
-        → r ≡ put_state p words (mix_last p 2 (state_in p words) (take n buffer))
-        → r ≡ put_state p words (last_state p (state_in p words) (take n buffer) (take n buffer))
-    put_last_some some within r e =
-        let b = take n buffer in
-        e ∙ ap (put_state p words)
-        (sym (last_state_some (state_in p words) b b (omega (arith, length-take-le n buffer within))))
+    pub put_last_some : 0 < length b → (r : List ℕ)
+        → r ≡ put_state p words (mix_last p 2 (state_in p words) b)
+        → r ≡ put_state p words (last_state p (state_in p words) b b)
+    put_last_some some r e = e ∙ ap (put_state p words) (sym (last_state_some (state_in p words) b b some))
 
 -- ---- What is written.
 
@@ -245,12 +243,6 @@ module _ (v : SparkleVariant) (at : Point) (key : List ℕ) (hw : length at.word
             (ap (take size) mac ∙ all-in_array size 32 (open_tag (params_of v) (take (params_of v).key key) at) (length-mac ∙ sym ez) (omega arith));
       }
 
-take-zeros : (n m : ℕ) → n ≤ m → take n (zeros m) ≡ zeros n
-unfolding zeros
-take-zeros zero m h = refl
-take-zeros (suc n) zero h = absurd (omega arith)
-take-zeros (suc n) (suc m) h = ap (◌∷◌ 0) (take-zeros n m (omega arith))
-
 module _ {v : SparkleVariant} {at : Point} {key : List ℕ} {body steps : ℕ} {plain tag : List ℕ} {equal : Bool}
     (o : Opening v at key body plain tag steps equal) where
   -- the received tag is right
@@ -270,9 +262,9 @@ module _ {v : SparkleVariant} {at : Point} {key : List ℕ} {body steps : ℕ} {
       → ◌≡◌ {A = End} (record { mac = mac; steps = steps }) (open_end (params_of v) (take (params_of v).key key) at)
   unopened mac wrong em = rw (sym o.verdict ∙ wrong, em, o.ran) refl
 
-  pub unopened_out : (out out₁ bytes : List ℕ) → equal ≡ false → out₁ ≡ paste out 0 bytes body → bytes ≡ zeros 64
-      → out₁ ≡ written (open_out (params_of v) (take (params_of v).key key) at) out
-  unopened_out out out₁ bytes wrong e₁ eb =
-      rw (sym o.verdict ∙ wrong, o.block)
-      (e₁
-      ∙ paste_front out bytes (zeros body) body (ap (take body) eb ∙ take-zeros body 64 o.within) (length-zeros body))
+  pub unopened_out : (out bytes : List ℕ) → equal ≡ false → body ≤ length out → bytes ≡ replicate (length (take body out)) 0
+      → bytes ++ drop body out ≡ written (open_out (params_of v) (take (params_of v).key key) at) out
+  unfolding zeros written
+  unopened_out out bytes wrong room e =
+      let size = length-take-le body out room in
+      rw (sym o.verdict ∙ wrong, o.block, e, size, length-replicate {A = ℕ} body 0) refl

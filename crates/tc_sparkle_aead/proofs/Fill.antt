@@ -1,7 +1,7 @@
 -- A loop that writes an array from its front, one element a turn: after i turns the first i elements of a target stand
 -- before what is left of the array. A turn is `laid_turn`, for an array that was zeros `fill_turn`; the end is
--- `laid_over` or `fill_end`.
-use Rattle.std.proofs.Common.{◌≡◌, ℕ, zero, suc, ◌+◌, ◌<◌, ◌≤◌, List, [], ◌∷◌, ◌++◌, length, get_or, take, drop, set, replicate, sym, refl, ap, ◌∙◌, ap₂, append-nil, add-one, arith, drop_of_length-le, take_all}
+-- `fill_end`.
+use Rattle.std.proofs.Common.{◌≡◌, ℕ, zero, suc, ◌+◌, ◌<◌, ◌≤◌, List, [], ◌∷◌, ◌++◌, length, get_or, take, drop, set, replicate, sym, refl, ap, ◌∙◌, add-one, arith, take_all}
 use lib.ListN.{length-replicate}
 use Rattle.tc_sparkle_aead.specs.Message.{zeros, in_array}
 
@@ -18,13 +18,6 @@ laid_suc (y ∷ t) (x ∷ d) (suc i) h k = ap (◌∷◌ y) (laid_suc t d i (ome
 
 pub laid_turn : (t d : List ℕ) {i x : ℕ} {r : List ℕ} → r ≡ laid t d i → x ≡ get_or t i 0 → i < length t → i < length d → set r i x ≡ laid t d (i + 1)
 laid_turn t d {i} e f h k = rw (e, f, add-one i) (laid_suc t d i h k)
-
--- the target covers the array
-pub laid_over : (t d : List ℕ) {i : ℕ} {r : List ℕ} → r ≡ laid t d i → length t ≡ i → length d ≡ i → r ≡ t
-unfolding laid
-laid_over t d {i} e h k =
-    e ∙ ap₂ (λ (a b : List ℕ). a ++ b) (take_all i t (omega arith)) (drop_of_length-le d {i = i} (omega arith))
-    ∙ append-nil t
 
 -- the array was zeros
 zeros-behind : (t : List ℕ) (m k : ℕ) → length t ≤ m → m ≤ k → t ++ drop (length t) (replicate m 0) ≡ take m (t ++ replicate k 0)
@@ -47,3 +40,13 @@ fill_end m t {i} f e h =
     f ∙ ap (λ (a : List ℕ). a ++ drop i (replicate m 0)) (take_all i t (omega arith))
     ∙ ap (λ (k : ℕ). t ++ drop k (replicate m 0)) (sym e)
     ∙ zeros-behind t m m (omega arith) (omega arith)
+
+-- nothing is written yet
+pub laid_none : (t d : List ℕ) → d ≡ laid t d 0
+unfolding laid
+laid_none t d = refl
+
+-- a list over an array that was zeros
+pub over_zeros : (m : ℕ) (t : List ℕ) → length t ≤ m → t ++ drop (length t) (replicate m 0) ≡ in_array m t
+unfolding zeros in_array
+over_zeros m t h = zeros-behind t m m h (omega arith)

@@ -1,6 +1,6 @@
 -- An end by its check, over plain variables: what a check that passes tells of the held bytes and of the output's room,
 -- and what the call then answers.
-use Rattle.std.proofs.Common.{◌≡◌, ℕ, ◌+◌, ◌^◌, ◌≤◌, Bool, true, false, cond, ltb, List, length, sym, refl, ap, ◌∙◌, arith, ltb-false}
+use Rattle.std.proofs.Common.{◌≡◌, ℕ, ◌+◌, ◌^◌, ◌≤◌, Bool, true, false, cond, ltb, List, length, sym, refl, ap, ◌∙◌, arith, ltb-false, Result, Ok, Err}
 use Rattle.schwaemm.specs.Schwaemm.{Params}
 use Rattle.tc_aead_cipher.specs.declared.variant.SparkleVariant.{SparkleVariant}
 use Rattle.tc_aead_cipher.specs.declared.phase.Direction.{Direction}
@@ -8,8 +8,6 @@ use Rattle.tc_aead_cipher.specs.declared.phase.Direction.TheVariants.{Encrypt, D
 use Rattle.tc_aead_cipher.specs.declared.phase.Phase.{Phase}
 use Rattle.tc_aead_cipher.specs.declared.phase.Phase.TheVariants.{Uninitialized, Init, Aad, Data, Final}
 use Rattle.tc_aead_cipher.specs.declared.aead_error.AeadError.{AeadError}
-use Rattle.tc_aead_cipher.specs.declared.aead_error.AeadResult.{AeadResult}
-use Rattle.tc_aead_cipher.specs.declared.aead_error.AeadResult.TheVariants.{Ok, Err}
 use Rattle.tc_sparkle_aead.specs.declared.message.Point.{Point}
 use Rattle.tc_sparkle_aead.specs.declared.message.End.{End}
 use Rattle.tc_sparkle_aead.specs.declared.engine.Pair.{Pair}
@@ -25,7 +23,7 @@ use Rattle.tc_sparkle_aead.proofs.BeginLaws.{begin_held, begin_ended, begin_part
 -- ---- A check that passes.
 
 -- two checks in a row: both pass
-record Passed (first : AeadResult) (second : ℕ → AeadResult) (n : ℕ) : Type 0 where
+record Passed (first : Result ℕ AeadError) (second : ℕ → Result ℕ AeadError) (n : ℕ) : Type 0 where
   count : ℕ
   one : first ≡ Ok count
   two : second count ≡ Ok n
@@ -33,7 +31,7 @@ record Passed (first : AeadResult) (second : ℕ → AeadResult) (n : ℕ) : Typ
 never_passed : {A : Type 0} (x : AeadError) (n : ℕ) → Err x ≡ Ok n → A
 never_passed x n e = let z : ◌≡◌ {A = ℕ} 0 1 = cc in absurd (omega arith)
 
-then_passed : (first : AeadResult) (second : ℕ → AeadResult) {n : ℕ} → then first second ≡ Ok n → Passed first second n
+then_passed : (first : Result ℕ AeadError) (second : ℕ → Result ℕ AeadError) {n : ℕ} → then first second ≡ Ok n → Passed first second n
 then_passed (Ok m) second e = record { count = m; one = refl; two = e }
 then_passed (Err x) second {n} e = never_passed x n e
 
@@ -131,7 +129,7 @@ module _ {e : SparkleEngine} {at : Point} {out : List ℕ} {n : ℕ} {opens : Bo
   parts_are f = ap (f e.variant e.pair) t.begins ∙ sym (begin_parts e f e.current.phase)
 
   -- an engine that has ended, by what the end gave
-  ended_is : (answer : AeadResult) → answer ≡ Ok n → (first : ℕ)
+  ended_is : (answer : Result ℕ AeadError) → answer ≡ Ok n → (first : ℕ)
       → first ≡ begin_steps (params_of e.variant) e.current.phase → (x : Point) (d : Direction) (end end' : End)
       → end ≡ end'
       → finish (at_point e x first) (answered answer end.mac) d end.mac end.steps
@@ -157,9 +155,9 @@ module _ {e : SparkleEngine} {at : Point} {out : List ℕ} {n : ℕ} {opens : Bo
           sealing-room (params_of e.variant) e.current.phase e.current.held (length out) n t.passed sealing,
         )
 
-    pub final_sealed : (answer : AeadResult) → answer ≡ Ok n → (first : ℕ)
+    pub final_sealed : (answer : Result ℕ AeadError) → answer ≡ Ok n → (first : ℕ)
         → first ≡ begin_steps (params_of e.variant) e.current.phase → (x : Point) (end : End)
-        → end ≡ seal_end (params_of e.variant) (current_key (params_of e.variant) e.pair) at → (done : Done)
+        → end ≡ seal_end (params_of e.variant) (current_key (params_of e.variant) e.pair) at → (done : Done (Result ℕ AeadError))
         → done ≡ finish (at_point e x first) (answered answer end.mac) Encrypt end.mac end.steps
         → done ≡ do_final e out
     unfolding do_final seal_final finish readable
@@ -192,10 +190,10 @@ module _ {e : SparkleEngine} {at : Point} {out : List ℕ} {n : ℕ} {opens : Bo
           opening-room (params_of e.variant) e.current.phase e.current.held (length out) n t.passed opened,
         )
 
-    pub final_opened : (answer : AeadResult) → answer ≡ Ok n → (first : ℕ)
+    pub final_opened : (answer : Result ℕ AeadError) → answer ≡ Ok n → (first : ℕ)
         → first ≡ begin_steps (params_of e.variant) e.current.phase → (x : Point) (end : End)
         → end ≡ open_end (params_of e.variant) (current_key (params_of e.variant) e.pair) at
-        → (done : Done) → done ≡ finish (at_point e x first) (answered answer end.mac) Decrypt end.mac end.steps
+        → (done : Done (Result ℕ AeadError)) → done ≡ finish (at_point e x first) (answered answer end.mac) Decrypt end.mac end.steps
         → done ≡ do_final e out
     unfolding do_final open_final
     final_opened answer accepted first ef x end ee done ed =
@@ -214,14 +212,14 @@ module _ {e : SparkleEngine} {at : Point} {out : List ℕ} {n : ℕ} {opens : Bo
         written (open_out (params_of v) (current_key (params_of v) pair) x) out))
 
 -- a refused end
-module _ (e : SparkleEngine) (out : List ℕ) (answer : AeadResult) (x : AeadError)
+module _ (e : SparkleEngine) (out : List ℕ) (answer : Result ℕ AeadError) (x : AeadError)
     (checked : answer ≡ final_answer e (length out)) (no : answer ≡ Err x) where
-  pub final_refused : ◌≡◌ {A = Done} (record { answer = answer; engine = e }) (do_final e out)
+  pub final_refused : ◌≡◌ {A = Done (Result ℕ AeadError)} (record { answer = answer; engine = e }) (do_final e out)
   unfolding do_final
   final_refused =
-      ap (λ (k : AeadResult). record { answer = k; engine = e }) no
-      ∙ sym (ap (λ (k : AeadResult). final_by k e) (sym checked ∙ no))
+      ap (λ (k : Result ℕ AeadError). record { answer = k; engine = e }) no
+      ∙ sym (ap (λ (k : Result ℕ AeadError). final_by k e) (sym checked ∙ no))
 
   pub final_refused_out : out ≡ do_final_out e out
   unfolding do_final_out
-  final_refused_out = sym (ap (λ (k : AeadResult). final_out_by k e out) (sym checked ∙ no))
+  final_refused_out = sym (ap (λ (k : Result ℕ AeadError). final_out_by k e out) (sym checked ∙ no))

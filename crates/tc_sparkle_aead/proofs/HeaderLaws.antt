@@ -1,12 +1,10 @@
 -- The header's definitions, from the header's length where they go by its first byte, and the steps that its blocks run.
-use Rattle.std.proofs.Common.{◌≡◌, ℕ, ◌+◌, ◌*◌, ◌^◌, ◌<◌, ◌≤◌, List, [], ◌∷◌, length, sym, refl, ap, ◌∙◌, ap₂, mul-le-mul_left, arith, ne_eqb}
+use Rattle.std.proofs.Common.{◌≡◌, ℕ, ◌+◌, ◌*◌, ◌^◌, ◌<◌, ◌≤◌, List, [], ◌∷◌, length, sym, refl, ap, ◌∙◌, ap₂, mul-le-mul_left, arith, ne_eqb, Result, Ok, Err}
 use Rattle.schwaemm.specs.Schwaemm.{Params, Sizes, absorb_block}
 use Rattle.tc_aead_cipher.specs.declared.phase.Direction.{Direction}
 use Rattle.tc_aead_cipher.specs.declared.phase.Phase.{Phase}
 use Rattle.tc_aead_cipher.specs.declared.phase.Phase.TheVariants.{Uninitialized, Init, Aad, Data, Final}
 use Rattle.tc_aead_cipher.specs.declared.aead_error.AeadError.{AeadError}
-use Rattle.tc_aead_cipher.specs.declared.aead_error.AeadResult.{AeadResult}
-use Rattle.tc_aead_cipher.specs.declared.aead_error.AeadResult.TheVariants.{Ok, Err}
 use Rattle.tc_sparkle_aead.specs.declared.message.Point.{Point}
 use Rattle.tc_sparkle_aead.specs.declared.engine.SparkleEngine.{SparkleEngine}
 use Rattle.tc_aead_cipher.specs.Variant.{params_of}
@@ -59,11 +57,11 @@ aad_by_some n e [] h = absurd (omega arith)
 aad_by_some n e (x ∷ input) h = refl
 
 -- a header call with bytes by its phase's check: refused, and taken
-module _ (e : SparkleEngine) (input : List ℕ) (answer : AeadResult) (some : length input ≡ 0 → ⊥)
+module _ (e : SparkleEngine) (input : List ℕ) (answer : Result ℕ AeadError) (some : length input ≡ 0 → ⊥)
     (checked : answer ≡ header_check e.current.phase) where
-  by-check : (k : AeadResult) → answer ≡ k → aad_by k e input ≡ process_aad_bytes e input
+  by-check : (k : Result ℕ AeadError) → answer ≡ k → aad_by k e input ≡ process_aad_bytes e input
   unfolding process_aad_bytes aad_check
-  by-check k is = rw (ne_eqb (length input) 0 some) (ap (λ (x : AeadResult). aad_by x e input) (sym is ∙ checked))
+  by-check k is = rw (ne_eqb (length input) 0 some) (ap (λ (x : Result ℕ AeadError). aad_by x e input) (sym is ∙ checked))
 
   pub aad_refused : (x : AeadError) → answer ≡ Err x → record { answer = answer; engine = e } ≡ process_aad_bytes e input
   aad_refused x q = (λ i. record { answer = q i; engine = e }) ∙ by-check (Err x) q

@@ -1,20 +1,19 @@
 -- A start: when a pair repeats, and the engine after a start, from its parts.
-use Rattle.std.proofs.Common.{◌≡◌, ℕ, ◌+◌, ◌%◌, ◌^◌, ◌≤◌, Bool, true, false, cond, List, length, take, sym, refl, ap, ◌∙◌, ap₂, arith, length-take-le, take_all}
+use Rattle.std.proofs.Common.{◌&&◌, ◌≡◌, ℕ, ◌+◌, ◌%◌, ◌^◌, ◌≤◌, Bool, true, false, cond, List, length, take, sym, refl, ap, ◌∙◌, arith, length-take-le, Result, Ok, Err}
 use Rattle.schwaemm.specs.Bytes.{same}
 use Rattle.schwaemm.specs.Schwaemm.{Params}
 use Rattle.schwaemm.proofs.RoundTrip.{equal_of_same}
 use Rattle.tc_aead_cipher.specs.declared.phase.Direction.{Direction}
 use Rattle.tc_aead_cipher.specs.declared.aead_init_error.AeadInitError.{AeadInitError}
-use Rattle.tc_aead_cipher.specs.declared.aead_init_error.AeadInitResult.{AeadInitResult}
-use Rattle.tc_aead_cipher.specs.declared.aead_init_error.AeadInitResult.TheVariants.{Ok as Accepted, Err as Refused}
 use Rattle.tc_sparkle_aead.specs.declared.message.Point.{Point}
 use Rattle.tc_sparkle_aead.specs.declared.engine.Pair.{Pair}
 use Rattle.tc_sparkle_aead.specs.declared.message.Mac.{Mac}
+use Rattle.tc_sparkle_aead.specs.declared.engine.Steps.{Steps}
 use Rattle.tc_sparkle_aead.specs.declared.engine.SparkleEngine.{SparkleEngine}
 use Rattle.tc_aead_cipher.specs.Variant.{params_of}
 use Rattle.tc_aead_cipher.specs.Checks.{start_check}
 use Rattle.tc_sparkle_aead.specs.Message.{no_mac, start_point, absorb_header, header_steps}
-use Rattle.tc_sparkle_aead.specs.Engine.{new_engine, repeats, remember, init_steps}
+use Rattle.tc_sparkle_aead.specs.Engine.{new_engine, repeats, remember, init_steps, no_steps}
 use Rattle.tc_sparkle_aead.specs.Calls.{started, refused, init_by, init}
 
 -- lists of different lengths differ
@@ -29,66 +28,48 @@ cond_false : (t : Bool) → false ≡ cond t false false
 cond_false true = refl
 cond_false false = refl
 
+both : (a b : Bool) → a && b ≡ cond a b false
+both true b = refl
+both false b = refl
+
 -- a pair repeats where there is one and both its parts do
 module _ (p : Params) (pair : Pair) (key nonce : List ℕ) where
-  pub repeats-key : p.key ≤ length pair.key → (length key ≡ p.key → ⊥) → false ≡ repeats p pair key nonce
+  pub repeats_key : p.key ≤ length pair.key → (length key ≡ p.key → ⊥) → false ≡ repeats p pair key nonce
   unfolding repeats
-  repeats-key h wrong =
+  repeats_key h wrong =
       rw (lengths_differ (take p.key pair.key) key (λ e. wrong (omega (arith, length-take-le p.key pair.key h))))
       (cond_false pair.loaded)
 
-  pub repeats-nonce : p.rate ≤ length pair.nonce → (length nonce ≡ p.rate → ⊥) → false ≡ repeats p pair key nonce
+  pub repeats_nonce : p.rate ≤ length pair.nonce → (length nonce ≡ p.rate → ⊥) → false ≡ repeats p pair key nonce
   unfolding repeats
-  repeats-nonce h wrong =
+  repeats_nonce h wrong =
       rw (
         lengths_differ (take p.rate pair.nonce) nonce
             (λ e. wrong (omega (arith, length-take-le p.rate pair.nonce h))),
         ← cond_false (same (take p.key pair.key) key),
       ) (cond_false pair.loaded)
 
-  pub repeats-none : pair.loaded ≡ false → false ≡ repeats p pair key nonce
+  pub repeats_none : pair.loaded ≡ false → false ≡ repeats p pair key nonce
   unfolding repeats
-  repeats-none none = rw none refl
+  repeats_none none = rw none refl
 
-  pub repeats-pair : (k n : ℕ) (a b : Bool) → k ≡ p.key → n ≡ p.rate → length key ≡ k → length nonce ≡ n
-      → pair.loaded ≡ true → a ≡ same (take k pair.key) (take k key)
-      → b ≡ same (take n pair.nonce) (take n nonce) → cond a b false ≡ repeats p pair key nonce
+  pub repeats_pair : (k n : ℕ) (a b : Bool) → k ≡ p.key → n ≡ p.rate → pair.loaded ≡ true
+      → a ≡ same (take k pair.key) key → b ≡ same (take n pair.nonce) nonce → a && b ≡ repeats p pair key nonce
   unfolding repeats
-  repeats-pair k n a b ek en hk hn loaded ea eb =
-      let ea' = ea ∙ ap₂ same (ap (λ (m : ℕ). take m pair.key) ek) (take_all k key (omega arith)) in
-      let eb' = eb ∙ ap₂ same (ap (λ (m : ℕ). take m pair.nonce) en) (take_all n nonce (omega arith)) in
-      rw loaded (ap₂ (λ (x y : Bool). cond x y false) ea' eb')
+  repeats_pair k n a b ek en loaded ea eb = rw (loaded, ea, eb, ek, en) (both (same (take p.key pair.key) key) (same (take p.rate pair.nonce) nonce))
 
 -- the engine after a start that is taken
-pub started-is : (e : SparkleEngine) (d : Direction) (key nonce header : List ℕ) (at point : Point) (pair : Pair) (mac : Mac)
-    (big steps count : ℕ)
+pub started_is : (e : SparkleEngine) (d : Direction) (key nonce header : List ℕ) (at point : Point) (pair : Pair) (mac : Mac)
+    (big steps : ℕ) (counted : Steps)
     → at ≡ start_point (params_of e.variant) d key nonce → point ≡ absorb_header (params_of e.variant) d at header
     → pair ≡ remember e.pair key nonce → mac ≡ no_mac → big ≡ (params_of e.variant).big
-    → steps ≡ header_steps (params_of e.variant) at header → count ≡ (big + steps) % 2 ^ 64
+    → steps ≡ header_steps (params_of e.variant) at header → counted ≡ init_steps no_steps ((big + steps) % 2 ^ 64)
     → ◌≡◌ {A = SparkleEngine}
-    (record {
-      variant = e.variant;
-      current = point;
-      initial = point;
-      pair = pair;
-      mac = mac;
-      steps = record { current = count; initial = count };
-    })
+    (record { variant = e.variant; current = point; initial = point; pair = pair; mac = mac; steps = counted })
     (started e d key nonce header)
 unfolding started init_steps
-started-is e d key nonce header at point pair mac big steps count ea ep er em eb es ec =
-    let p = params_of e.variant in
-    let ep' = ep ∙ ap (λ (x : Point). absorb_header p d x header) ea in
-    let es' = es ∙ ap (λ (x : Point). header_steps p x header) ea in
-    let ec' = ec ∙ ap₂ (λ (x y : ℕ). (x + y) % 2 ^ 64) eb es' in
-    λ i. record {
-      variant = e.variant;
-      current = ep' i;
-      initial = ep' i;
-      pair = er i;
-      mac = em i;
-      steps = record { current = ec' i; initial = ec' i };
-    }
+started_is e d key nonce header at point pair mac big steps counted ea ep er em eb es ec =
+    rw (ec, em, er, es, eb, ep, ea) refl
 
 -- of the engine before it only the variant counts
 pub started_by_variant : (e : SparkleEngine) (d : Direction) (key nonce header : List ℕ)
@@ -98,18 +79,18 @@ started_by_variant e d key nonce header = refl
 
 -- a start by its check: what it answers, and the engine afterwards
 module _ (e : SparkleEngine) (d : Direction) (key nonce : List ℕ) (size : ℕ) (header : List ℕ) (again : Bool)
-    (check : AeadInitResult) (engine : SparkleEngine) (ea : again ≡ repeats (params_of e.variant) e.pair key nonce)
+    (check : Result (Unit {0}) AeadInitError) (engine : SparkleEngine) (ea : again ≡ repeats (params_of e.variant) e.pair key nonce)
     (ec : check ≡ start_check e.variant d (length key) (length nonce) size again) where
-  init-by : (answer : AeadInitResult) → check ≡ answer → init_by answer e d key nonce header ≡ init e d key nonce size header
+  init-by : (answer : Result (Unit {0}) AeadInitError) → check ≡ answer → init_by answer e d key nonce header ≡ init e d key nonce size header
   unfolding init
   init-by answer is =
-      ap (λ (x : AeadInitResult). init_by x e d key nonce header)
+      ap (λ (x : Result (Unit {0}) AeadInitError). init_by x e d key nonce header)
       (sym is ∙ ec ∙ ap (start_check e.variant d (length key) (length nonce) size) ea)
 
-  pub init-taken : check ≡ Accepted → engine ≡ started e d key nonce header
+  pub init_taken : check ≡ Ok tt → engine ≡ started e d key nonce header
       → record { answer = check; engine = engine } ≡ init e d key nonce size header
-  init-taken accepted en = (λ i. record { answer = accepted i; engine = en i }) ∙ init-by Accepted accepted
+  init_taken accepted en = (λ i. record { answer = accepted i; engine = en i }) ∙ init-by (Ok tt) accepted
 
-  pub init-refused : (x : AeadInitError) → check ≡ Refused x → engine ≡ refused e
+  pub init_refused : (x : AeadInitError) → check ≡ Err x → engine ≡ refused e
       → record { answer = check; engine = engine } ≡ init e d key nonce size header
-  init-refused x q en = (λ i. record { answer = q i; engine = en i }) ∙ init-by (Refused x) q
+  init_refused x q en = (λ i. record { answer = q i; engine = en i }) ∙ init-by (Err x) q

@@ -1,5 +1,8 @@
 -- The last block in the engine's arrays: its padding, and that it makes `mix_last` of the state.
-use Rattle.std.proofs.Common.{◌≡◌, ℕ, suc, ◌+◌, ◌-◌, ◌<◌, true, false, List, ◌∷◌, ◌++◌, length, set, replicate, refl, ◌∙◌, append_assoc, arith, length-append}
+use Rattle.tc_aead_cipher.specs.Variant.{params_of}
+use Rattle.tc_aead_cipher.specs.declared.variant.SparkleVariant.{SparkleVariant}
+use Rattle.tc_aead_cipher.specs.declared.variant.SparkleVariant.TheVariants.{Schwaemm128_128, Schwaemm256_128, Schwaemm192_192, Schwaemm256_256}
+use Rattle.std.proofs.Common.{◌≡◌, ℕ, ◌*◌, ◌/◌, ◌%◌, ◌^◌, suc, ◌+◌, ◌-◌, ◌<◌, true, false, List, ◌∷◌, ◌++◌, length, set, replicate, refl, ◌∙◌, append_assoc, arith, length-append}
 use lib.ListN.{length-replicate, replicate-append-replicate}
 use lib.Seq.{set_at}
 use Rattle.schwaemm.specs.Blocks.{after}
@@ -36,3 +39,10 @@ module _ (p : Params) (h : Sizes p) (f : Small p) where
   unfolding mix_last with_domain xor_last after block_step plain_by sealing
   last_block_lem words block b r v c short eb ec ev er =
       er ∙ rw (eb, all-in_array p.rate 64 (padded p b) (length-padded p b) (omega arith), ec, ev) refl
+
+-- the power of the domain constant, as 1 shifted
+pub domain_power : (v : SparkleVariant) (n : ℕ) → n ≡ (params_of v).key → 1 * 2 ^ (n / 8) % 2 ^ 32 ≡ 2 ^ ((params_of v).key / 8)
+domain_power Schwaemm128_128 n e = rw e refl
+domain_power Schwaemm256_128 n e = rw e refl
+domain_power Schwaemm192_192 n e = rw e refl
+domain_power Schwaemm256_256 n e = rw e refl

@@ -1,13 +1,15 @@
 -- The laws that the proofs of `tc_sparkle_aead`, and of the crates above it, cite.
 pub mod ResetLaws
 pub mod BeginLaws
+pub mod ByteLaws
 pub mod Fill
+pub mod XorLaws
 pub mod SameLaws
-pub mod WordLaws
 pub mod StateLaws
 pub mod Points
 pub mod OpeningEnd
 pub mod MixLaws
+pub mod DuplexLaws
 pub mod BlockRuns
 pub mod StreamLaws
 pub mod LastBlock

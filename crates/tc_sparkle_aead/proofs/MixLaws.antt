@@ -1,6 +1,6 @@
 -- A block and the state: what `xors` of their words writes, and that the words which a block makes of the state under a
 -- mask are those that the specification permutes.
-use Rattle.std.proofs.Common.{◌≡◌, ℕ, ◌+◌, ◌*◌, ◌/◌, ◌^◌, ◌<◌, ◌≤◌, Bool, true, false, ltb, List, [], ◌∷◌, ◌++◌, length, get_or, take, sym, refl, ap, ◌∙◌, ap₂, mod-eq_of_lt, arith, length-take, length-take-le, take_all, take-take}
+use Rattle.std.proofs.Common.{◌≡◌, ℕ, ◌+◌, ◌*◌, ◌/◌, ◌^◌, ◌<◌, ◌≤◌, Bool, true, false, List, [], ◌∷◌, ◌++◌, length, get_or, take, sym, refl, ap, ◌∙◌, ap₂, mod-eq_of_lt, arith, length-take, length-take-le, take_all, take-take}
 use lib.Bits.{bit_xor, bit_and, xor_comm, xor_zero_r, and_mask, and_zero_r}
 use Rattle.sparkle.specs.Words.{Below, Words, Bytes}
 use Rattle.sparkle.specs.Sparkle.{run, sparkle, xors}
@@ -131,6 +131,15 @@ other_mask true mask x y e h hx =
     ∙ ap (bit_xor y) (xor_comm (bit_xor e x) x) ∙ sym (xor_assoc y x (bit_xor e x))
     ∙ ap₂ bit_xor (xor_comm y x) (ap (bit_xor e) (sym (ap (bit_and x) h ∙ all_left x hx)))
 
+-- the words of four groups of words
+pub words-joined : (g : Groups) → Words g.s0246 → Words g.s1357 → Words g.s8ace → Words g.s9bdf → Words (joined g)
+unfolding joined
+words-joined g a b c d =
+    Below.more (below_at a 0) (Below.more (below_at b 0) (Below.more (below_at a 1) (Below.more (below_at b 1)
+    (Below.more (below_at a 2) (Below.more (below_at b 2) (Below.more (below_at a 3) (Below.more (below_at b 3)
+    (Below.more (below_at c 0) (Below.more (below_at d 0) (Below.more (below_at c 1) (Below.more (below_at d 1)
+    (Below.more (below_at c 2) (Below.more (below_at d 2) (Below.more (below_at c 3) (Below.more (below_at d 3) Below.none)))))))))))))))
+
 -- the lanes of the mask, and every other word of a block
 abbrev pub lane_mask : ℕ → List ℕ
 lane_mask mask = mask ∷ (mask ∷ (bit_xor mask 0xffffffff ∷ (bit_xor mask 0xffffffff ∷ [])))
@@ -139,16 +148,16 @@ abbrev pub every_other : ℕ → List ℕ → List ℕ
 every_other i block = get_or block i 0 ∷ (get_or block (i + 2) 0 ∷ (get_or block (i + 4) 0 ∷ (get_or block (i + 6) 0 ∷ [])))
 
 -- a block and the groups, lane by lane
-pub mix-lanes : (g : Groups) (block x y : List ℕ) (mask : ℕ) → mask ≡ mask_of (ltb 0 mask) → Words (joined g) → length block ≡ 8
+pub mix-lanes : (g : Groups) (block x y : List ℕ) (opens : Bool) (mask : ℕ) → mask ≡ mask_of opens → Words (joined g) → length block ≡ 8
     → x ≡ lanes2 bit_xor (lanes2 bit_xor (shuffled 0x4e g.s0246) (lanes2 bit_xor (every_other 0 block) (lanes2 bit_and g.s0246 (lane_mask mask)))) g.s8ace
     → y ≡ lanes2 bit_xor (lanes2 bit_xor (shuffled 0x4e g.s1357) (lanes2 bit_xor (every_other 1 block) (lanes2 bit_and g.s1357 (lane_mask mask)))) g.s9bdf
-    → pairs x y ++ pairs g.s8ace g.s9bdf ≡ xor_block schwaemm256_256 mask (joined g) block
+    → pairs x y ++ pairs g.s8ace g.s9bdf ≡ xor_block schwaemm256_256 (mask_of opens) (joined g) block
 unfolding joined lanes2 shuffled xor_block masked rho1 feistel_swap outer inner whitening xors
-mix-lanes g block x y mask em ws lb ex ey =
+mix-lanes g block x y opens mask em ws lb ex ey =
     let a = g.s0246 in
     let b = g.s1357 in
     let c = g.s8ace in
     let d = g.s9bdf in
     ap₂ (λ (u v : List ℕ). pairs u v ++ pairs c d) ex ey
-    ∙ (λ k. bit_xor (bit_xor (get_or a 2 0) (bit_xor (get_or block 0 0) (bit_and (get_or a 0 0) mask))) (get_or c 0 0) ∷ (bit_xor (bit_xor (get_or b 2 0) (bit_xor (get_or block 1 0) (bit_and (get_or b 0 0) mask))) (get_or d 0 0) ∷ (bit_xor (bit_xor (get_or a 3 0) (bit_xor (get_or block 2 0) (bit_and (get_or a 1 0) mask))) (get_or c 1 0) ∷ (bit_xor (bit_xor (get_or b 3 0) (bit_xor (get_or block 3 0) (bit_and (get_or b 1 0) mask))) (get_or d 1 0) ∷ (bit_xor (other_mask (ltb 0 mask) mask (get_or a 2 0) (get_or a 0 0) (get_or block 4 0) em (below_at ws 4) k) (get_or c 2 0) ∷ (bit_xor (other_mask (ltb 0 mask) mask (get_or b 2 0) (get_or b 0 0) (get_or block 5 0) em (below_at ws 5) k) (get_or d 2 0) ∷ (bit_xor (other_mask (ltb 0 mask) mask (get_or a 3 0) (get_or a 1 0) (get_or block 6 0) em (below_at ws 6) k) (get_or c 3 0) ∷ (bit_xor (other_mask (ltb 0 mask) mask (get_or b 3 0) (get_or b 1 0) (get_or block 7 0) em (below_at ws 7) k) (get_or d 3 0) ∷ pairs c d))))))))
-    ∙ ap (xor_block schwaemm256_256 mask (joined g)) (tabbed 8 block lb)
+    ∙ (λ k. bit_xor (bit_xor (get_or a 2 0) (bit_xor (get_or block 0 0) (bit_and (get_or a 0 0) mask))) (get_or c 0 0) ∷ (bit_xor (bit_xor (get_or b 2 0) (bit_xor (get_or block 1 0) (bit_and (get_or b 0 0) mask))) (get_or d 0 0) ∷ (bit_xor (bit_xor (get_or a 3 0) (bit_xor (get_or block 2 0) (bit_and (get_or a 1 0) mask))) (get_or c 1 0) ∷ (bit_xor (bit_xor (get_or b 3 0) (bit_xor (get_or block 3 0) (bit_and (get_or b 1 0) mask))) (get_or d 1 0) ∷ (bit_xor (other_mask opens mask (get_or a 2 0) (get_or a 0 0) (get_or block 4 0) em (below_at ws 4) k) (get_or c 2 0) ∷ (bit_xor (other_mask opens mask (get_or b 2 0) (get_or b 0 0) (get_or block 5 0) em (below_at ws 5) k) (get_or d 2 0) ∷ (bit_xor (other_mask opens mask (get_or a 3 0) (get_or a 1 0) (get_or block 6 0) em (below_at ws 6) k) (get_or c 3 0) ∷ (bit_xor (other_mask opens mask (get_or b 3 0) (get_or b 1 0) (get_or block 7 0) em (below_at ws 7) k) (get_or d 3 0) ∷ pairs c d))))))))
+    ∙ ap₂ (λ (m : ℕ) (b : List ℕ). xor_block schwaemm256_256 m (joined g) b) em (tabbed 8 block lb)

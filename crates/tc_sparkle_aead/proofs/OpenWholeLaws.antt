@@ -1,6 +1,6 @@
 -- A packet that is opened whole or not, over plain variables: what a check that passes tells of the lengths, the verdict of
 -- the first pass, what the second one writes, and the answer.
-use Rattle.std.proofs.Common.{◌≡◌, ℕ, ◌+◌, ◌-◌, ◌*◌, ◌≤◌, Bool, true, false, List, [], ◌∷◌, ◌++◌, length, get_or, take, sym, refl, ap, ◌∙◌, ap₂, arith, length-append, take-take}
+use Rattle.std.proofs.Common.{◌≡◌, ℕ, ◌+◌, ◌-◌, ◌*◌, ◌≤◌, Bool, true, false, List, ◌++◌, length, take, sym, refl, ap, ◌∙◌, ap₂, arith, length-append, take-take}
 use lib.Seq.{paste}
 use Rattle.schwaemm.specs.Blocks.{ready, given, held}
 use Rattle.schwaemm.specs.Schwaemm.{Params, crypt, opening, message_block, prepared, body, last_block, decrypt, verified}
@@ -10,11 +10,9 @@ use Rattle.schwaemm.proofs.RoundTrip.{length_crypted_blocks, length-decrypt, lea
 use Rattle.tc_aead_cipher.specs.declared.variant.SparkleVariant.{SparkleVariant}
 use Rattle.tc_aead_cipher.specs.declared.phase.Direction.TheVariants.{Decrypt}
 use Rattle.tc_aead_cipher.specs.declared.phase.Phase.TheVariants.{Data}
-use Rattle.tc_aead_cipher.specs.declared.reply.Reply.{Reply}
 use Rattle.tc_aead_cipher.specs.Variant.{params_of}
 use Rattle.tc_aead_cipher.specs.Checks.{keep}
 use Rattle.tc_aead_cipher.specs.Outcome.{Outcome}
-use Rattle.tc_aead_cipher.specs.Reply.{reply_of}
 use Rattle.tc_aead_cipher.specs.PacketCheck.{packet_check}
 use Rattle.tc_aead_cipher.proofs.VariantLaws.{sizes, small}
 use Rattle.tc_aead_cipher.proofs.PacketCheckLaws.{PacketCase, packet_case}
@@ -39,116 +37,48 @@ pub record Sized (v : SparkleVariant) (key nonce packet room : ℕ) : Type 0 whe
   pub enough : (params_of v).key ≤ packet
   pub fits : packet - (params_of v).key ≤ room
 
--- an outcome's number in its reply; a count has 0
-abbrev number_of : Outcome → ℕ
-number_of l = (reply_of l).number
+-- the checks pass where they count
+pub sized : (v : SparkleVariant) (key nonce packet room n : ℕ) → packet_check (params_of v) key nonce packet room ≡ Outcome.ok n
+    → Sized v key nonce packet room
+sized v key nonce packet room n counted = by (packet_case (params_of v) key nonce packet room)
+  where
+    refused : (r : List ℕ) → packet_check (params_of v) key nonce packet room ≡ Outcome.no r → ⊥
+    refused r e = let z : ◌≡◌ {A = ℕ} 0 1 = cc in omega arith
 
-module _ (v : SparkleVariant) (key nonce packet room : ℕ) where
-  -- the checks refuse by a number, whatever the tag; or they pass
-  data Checked : Type 0 where
-    refused : (r : List ℕ) → packet_check (params_of v) key nonce packet room ≡ Outcome.no r → (get_or r 0 0 ≡ 0 → ⊥) → Checked
-    passed : Sized v key nonce packet room
-        → packet_check (params_of v) key nonce packet room ≡ Outcome.ok (packet - (params_of v).key) → Checked
-
-  checked : Checked
-  checked = by (packet_case (params_of v) key nonce packet room)
-    where
-      by : PacketCase (params_of v) key nonce packet room → Checked
-      by (key-length wrong e) = refused _ e (λ z. omega arith)
-      by (nonce-length k wrong e) = refused _ e (λ z. omega arith)
-      by (too_short k n short e) = refused _ e (λ z. omega arith)
-      by (no_room k n enough less e) = refused _ e (λ z. omega arith)
-      by (passes k n enough fits e) = passed (record { key_right = k; nonce_right = n; enough = enough; fits = fits }) e
-
-  pub sized : number_of (packet_check (params_of v) key nonce packet room) ≡ 0 → Sized v key nonce packet room
-  sized zero = by checked
-    where
-      by : Checked → Sized v key nonce packet room
-      by (refused r e wrong) = absurd (wrong (sym (ap number_of e) ∙ zero))
-      by (passed s e) = s
+    by : PacketCase (params_of v) key nonce packet room → Sized v key nonce packet room
+    by (key-length wrong e) = absurd (refused _ e)
+    by (nonce-length k wrong e) = absurd (refused _ e)
+    by (too_short k n short e) = absurd (refused _ e)
+    by (no_room k n enough less e) = absurd (refused _ e)
+    by (passes k n enough fits e) = record { key_right = k; nonce_right = n; enough = enough; fits = fits }
 
 module _ (v : SparkleVariant) (key nonce header packet : List ℕ) (room : ℕ) where
   abbrev lengths : Outcome
   lengths = packet_check (params_of v) (length key) (length nonce) (length packet) room
 
-  verify-by : (l : Outcome) (right : Bool) → lengths ≡ l → verified (params_of v) key nonce header packet ≡ right
-      → verify v key nonce header packet room ≡ tag_check right l
-  unfolding verify
-  verify-by l right el er = ap₂ tag_check er el
-
   -- a length refuses
-  pub verify-refused : (number_of lengths ≡ 0 → ⊥) → lengths ≡ verify v key nonce header packet room
-  verify-refused wrong = by (checked v (length key) (length nonce) (length packet) room)
-    where
-      by : Checked v (length key) (length nonce) (length packet) room → lengths ≡ verify v key nonce header packet room
-      by (refused r e w) = e ∙ sym (verify-by (Outcome.no r) _ e refl)
-      by (passed s e) = absurd (wrong (ap number_of e))
+  pub verify-refused : (r : List ℕ) → lengths ≡ Outcome.no r → lengths ≡ verify v key nonce header packet room
+  unfolding verify
+  verify-refused r e = rw e refl
 
-  module _ (zero : number_of lengths ≡ 0) (right : Bool) (er : right ≡ verified (params_of v) key nonce header packet) where
-    count-is : lengths ≡ Outcome.ok (length packet - (params_of v).key)
-    count-is = by (checked v (length key) (length nonce) (length packet) room)
-      where
-        by : Checked v (length key) (length nonce) (length packet) room → lengths ≡ Outcome.ok (length packet - (params_of v).key)
-        by (refused r e w) = absurd (w (sym (ap number_of e) ∙ zero))
-        by (passed s e) = e
+  -- the verifying pass counts what its checks count
+  verified-counts : (n : ℕ) (l : Outcome) (right : Bool) → tag_check right l ≡ Outcome.ok n → l ≡ Outcome.ok n
+  verified-counts n (Outcome.ok m) true e = e
+  verified-counts n (Outcome.ok m) false e = let z : ◌≡◌ {A = ℕ} 0 1 = cc in absurd (omega arith)
+  verified-counts n (Outcome.no r) right e = let z : ◌≡◌ {A = ℕ} 0 1 = cc in absurd (omega arith)
 
-    -- the tag is right, and it is wrong
-    pub verify_right : right ≡ true → lengths ≡ verify v key nonce header packet room
-    verify_right t = count-is ∙ sym (verify-by _ true count-is (sym er ∙ t))
-
-    pub verify_wrong : right ≡ false → Outcome.no (6 ∷ []) ≡ verify v key nonce header packet room
-    verify_wrong t = sym (verify-by _ false count-is (sym er ∙ t))
-
-  -- the verifying pass behind its checks, as replies: what it answers where the packet is verified, and where it is not
-  module _ (answer : Reply) (checks : answer ≡ reply_of lengths) (passes : answer.number ≡ 0) where
-    checks_passed : number_of lengths ≡ 0
-    checks_passed = omega (arith, ap (λ (r : Reply). r.number) checks)
-
-    pub reply_verified : verified (params_of v) key nonce header packet ≡ true → answer ≡ reply_of (verify v key nonce header packet room)
-    reply_verified t = checks ∙ ap reply_of (verify_right checks_passed _ refl t)
-
-    pub reply_unverified : verified (params_of v) key nonce header packet ≡ false → (other : Reply) → other ≡ reply_of (Outcome.no (6 ∷ []))
-        → other ≡ reply_of (verify v key nonce header packet room)
-    reply_unverified f other e = e ∙ ap reply_of (verify_wrong checks_passed _ refl f)
-
-  -- a packet is opened, or refused by a number
-  data Verified : Type 0 where
-    unopened : (r : List ℕ) → verify v key nonce header packet room ≡ Outcome.no r → (get_or r 0 0 ≡ 0 → ⊥) → Verified
-    opened : Sized v (length key) (length nonce) (length packet) room
-        → verify v key nonce header packet room ≡ Outcome.ok (length packet - (params_of v).key) → Verified
-
-  verify_case : Verified
-  verify_case = by (checked v (length key) (length nonce) (length packet) room) (verified (params_of v) key nonce header packet) refl
-    where
-      by : Checked v (length key) (length nonce) (length packet) room → (right : Bool)
-          → verified (params_of v) key nonce header packet ≡ right → Verified
-      by (refused r e w) right er = unopened r (verify-by (Outcome.no r) right e er) w
-      by (passed s e) true er = opened s (verify-by _ true e er)
-      by (passed s e) false er = unopened (6 ∷ []) (verify-by _ false e er) (λ z. omega arith)
-
-  pub opened_sized : number_of (verify v key nonce header packet room) ≡ 0 → Sized v (length key) (length nonce) (length packet) room
-  opened_sized zero = by verify_case
-    where
-      by : Verified → Sized v (length key) (length nonce) (length packet) room
-      by (unopened r e w) = absurd (w (sym (ap number_of e) ∙ zero))
-      by (opened s e) = s
+  pub opened_sized : (n : ℕ) → verify v key nonce header packet room ≡ Outcome.ok n → Sized v (length key) (length nonce) (length packet) room
+  unfolding verify
+  opened_sized n e = sized v (length key) (length nonce) (length packet) room n (verified-counts n lengths _ e)
 
   -- what the output holds
-  pub output-opened : number_of (verify v key nonce header packet room) ≡ 0 → (message out out₁ : List ℕ)
+  pub output-opened : (n : ℕ) → verify v key nonce header packet room ≡ Outcome.ok n → (message out out₁ : List ℕ)
       → out₁ ≡ written message out → out₁ ≡ opened_output (verify v key nonce header packet room) message out
-  output-opened zero message out out₁ eo = by verify_case
-    where
-      by : Verified → out₁ ≡ opened_output (verify v key nonce header packet room) message out
-      by (unopened r e w) = absurd (w (sym (ap number_of e) ∙ zero))
-      by (opened s e) = eo ∙ ap (λ (l : Outcome). opened_output l message out) (sym e)
+  output-opened n counted message out out₁ eo = rw counted eo
 
-  pub output-refused : (number_of (verify v key nonce header packet room) ≡ 0 → ⊥) → (message out : List ℕ)
+  pub output-refused : (r : List ℕ) → verify v key nonce header packet room ≡ Outcome.no r → (message out : List ℕ)
       → out ≡ opened_output (verify v key nonce header packet room) message out
-  output-refused wrong message out = by verify_case
-    where
-      by : Verified → out ≡ opened_output (verify v key nonce header packet room) message out
-      by (unopened r e w) = ap (λ (l : Outcome). opened_output l message out) (sym e)
-      by (opened s e) = absurd (wrong (ap number_of e))
+  output-refused r refused message out = rw refused refl
 
 -- ---- The passes.
 

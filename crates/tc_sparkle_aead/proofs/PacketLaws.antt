@@ -1,6 +1,6 @@
 -- A whole packet at once: by points of the message it is the same as by the calls of a new engine. The point where the data
 -- begins has the specification's state, `prepared`, and a new engine has no pair that could repeat.
-use Rattle.std.proofs.Common.{◌≡◌, ℕ, ◌+◌, ◌*◌, ◌<◌, ◌≤◌, min, Bool, true, false, cond, List, [], ◌∷◌, ◌++◌, length, take, drop, refl, ap, ◌∙◌, arith, length-drop, take-append-drop}
+use Rattle.std.proofs.Common.{◌≡◌, ℕ, ◌+◌, ◌*◌, ◌<◌, ◌≤◌, min, Bool, true, false, cond, List, [], ◌∷◌, ◌++◌, length, take, drop, refl, ap, ◌∙◌, arith, length-drop, take-append-drop, Result, Ok, Err}
 use Rattle.schwaemm.specs.Bytes.{if_empty}
 use Rattle.schwaemm.specs.Blocks.{after, held}
 use Rattle.schwaemm.specs.Schwaemm.{Params, Sizes, leading, initialise, absorb_block, mix_last, absorb, prepared}
@@ -11,11 +11,7 @@ use Rattle.tc_aead_cipher.specs.declared.phase.Direction.{Direction}
 use Rattle.tc_aead_cipher.specs.declared.phase.Phase.{Phase}
 use Rattle.tc_aead_cipher.specs.declared.phase.Phase.TheVariants.{Data}
 use Rattle.tc_aead_cipher.specs.declared.aead_error.AeadError.{AeadError}
-use Rattle.tc_aead_cipher.specs.declared.aead_error.AeadResult.{AeadResult}
-use Rattle.tc_aead_cipher.specs.declared.aead_error.AeadResult.TheVariants.{Ok, Err}
 use Rattle.tc_aead_cipher.specs.declared.aead_init_error.AeadInitError.{AeadInitError}
-use Rattle.tc_aead_cipher.specs.declared.aead_init_error.AeadInitResult.{AeadInitResult}
-use Rattle.tc_aead_cipher.specs.declared.aead_init_error.AeadInitResult.TheVariants.{Ok as Started, Err as Refused}
 use Rattle.tc_aead_cipher.specs.Variant.{params_of}
 use Rattle.tc_aead_cipher.specs.Checks.{opening, held_data, update_len, data_check, start_check}
 use Rattle.tc_aead_cipher.specs.Outcome.{outcome, start_outcome}
@@ -122,7 +118,7 @@ module _ (e : SparkleEngine) (d : Direction) (is : e.current.phase ≡ Data d) (
   unfolding begin_data
   begun = ap (λ (phase : Phase). begin_by phase e) is
 
-  end_by_lem : (k : AeadResult)
+  end_by_lem : (k : Result ℕ AeadError)
       → end_by n (outcome (final_by k e).answer) (take n out ++ final_out_by k e (drop n out))
       ≡ point_end_by k n (params_of e.variant) (current_key (params_of e.variant) e.pair) e.current out
   unfolding open_final
@@ -146,30 +142,30 @@ module _ (e : SparkleEngine) (d : Direction) (is : e.current.phase ≡ Data d) (
 
 module _ (v : SparkleVariant) (d : Direction) (key nonce header input out : List ℕ) where
   -- the start goes by a check in which nothing repeats
-  start-by : (k : AeadInitResult) → start_check v d (length key) (length nonce) (params_of v).key false ≡ k
+  start-by : (k : Result (Unit {0}) AeadInitError) → start_check v d (length key) (length nonce) (params_of v).key false ≡ k
       → variant_packet v d key nonce header input out
       ≡ start_by (start_outcome (init_by k (new_engine v) d key nonce header).answer) (init_by k (new_engine v) d key nonce header).engine input out
   unfolding variant_packet step init new_engine repeats no_pair
   start-by k e =
-      ap (λ (x : AeadInitResult).
+      ap (λ (x : Result (Unit {0}) AeadInitError).
       start_by (start_outcome (init_by x (new_engine v) d key nonce header).answer) (init_by x (new_engine v) d key nonce header).engine input out) e
 
-  pub packet_not_started : (x : AeadInitError) → start_check v d (length key) (length nonce) (params_of v).key false ≡ Refused x
-      → variant_packet v d key nonce header input out ≡ record { reply = reply_of (start_outcome (Refused x)); out = out }
-  packet_not_started x e = start-by (Refused x) e
+  pub packet_not_started : (x : AeadInitError) → start_check v d (length key) (length nonce) (params_of v).key false ≡ Err x
+      → variant_packet v d key nonce header input out ≡ record { reply = reply_of (start_outcome (Err x)); out = out }
+  packet_not_started x e = start-by (Err x) e
 
   -- the engine after the start
   abbrev e₁ : SparkleEngine
   e₁ = started (new_engine v) d key nonce header
 
-  module _ (passed : start_check v d (length key) (length nonce) (params_of v).key false ≡ Started) where
-    data-by : (k : AeadResult) → data_check (params_of v) (Data d) 0 (length input) (length out) ≡ k
+  module _ (passed : start_check v d (length key) (length nonce) (params_of v).key false ≡ Ok tt) where
+    data-by : (k : Result ℕ AeadError) → data_check (params_of v) (Data d) 0 (length input) (length out) ≡ k
         → variant_packet v d key nonce header input out
         ≡ data_by (outcome (engineDataBy k e₁ input).answer) (engineDataBy k e₁ input).engine (data_out_by k e₁ input out)
     unfolding data_packet step process_bytes process_bytes_out started new_engine
     data-by k e =
-        start-by Started passed
-        ∙ ap (λ (x : AeadResult). data_by (outcome (engineDataBy x e₁ input).answer) (engineDataBy x e₁ input).engine (data_out_by x e₁ input out))
+        start-by (Ok tt) passed
+        ∙ ap (λ (x : Result ℕ AeadError). data_by (outcome (engineDataBy x e₁ input).answer) (engineDataBy x e₁ input).engine (data_out_by x e₁ input out))
         (check-prepared (params_of v) (sizes v) (small v) d key nonce header (length input) (length out) ∙ e)
 
     pub packet_no_room : (x : AeadError) → data_check (params_of v) (Data d) 0 (length input) (length out) ≡ Err x

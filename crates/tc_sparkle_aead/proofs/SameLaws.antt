@@ -1,26 +1,22 @@
 -- A loop that compares two lists, one element a turn: whether their first i elements are the same.
-use Rattle.std.proofs.Common.{◌≡◌, ℕ, zero, suc, ◌<◌, Bool, true, false, cond, eqb, List, [], ◌∷◌, length, get_or, take, refl, ap, ◌∙◌, arith, eq-eqb, ne_eqb}
+use Rattle.std.proofs.Common.{◌≡◌, ℕ, zero, suc, ◌+◌, ◌<◌, Bool, true, false, ◌&&◌, cond, eqb, List, [], ◌∷◌, length, get_or, take, refl, add-one, arith}
 use Rattle.schwaemm.specs.Bytes.{same}
 
--- a turn at equal bytes, and one at bytes that differ
-pub same_more : (a b : List ℕ) (i : ℕ) → i < length a → i < length b → get_or a i 0 ≡ get_or b i 0
-    → same (take i a) (take i b) ≡ same (take (suc i) a) (take (suc i) b)
-unfolding same
-same_more [] b i h k e = absurd (omega arith)
-same_more (x ∷ a) [] i h k e = absurd (omega arith)
-same_more (x ∷ a) (y ∷ b) zero h k e = rw (eq-eqb x y e)
-same_more (x ∷ a) (y ∷ b) (suc i) h k e =
-    ap (λ (t : Bool). cond (eqb x y) t false) (same_more a b i (omega arith) (omega arith) e)
+last : (t : Bool) → t ≡ cond t true false
+last true = refl
+last false = refl
 
-never : (t : Bool) → false ≡ cond t false false
-never true = refl
-never false = refl
+behind : (t u v e : Bool) → u && e ≡ v → cond t u false && e ≡ cond t v false
+behind true u v e h = h
+behind false u v e h = refl
 
-pub same_no_more : (a b : List ℕ) (i : ℕ) → i < length a → i < length b → (get_or a i 0 ≡ get_or b i 0 → ⊥)
-    → false ≡ same (take (suc i) a) (take (suc i) b)
+turn : (a b : List ℕ) (i : ℕ) → i < length a → i < length b → same (take i a) (take i b) && eqb (get_or a i 0) (get_or b i 0) ≡ same (take (suc i) a) (take (suc i) b)
 unfolding same
-same_no_more [] b i h k e = absurd (omega arith)
-same_no_more (x ∷ a) [] i h k e = absurd (omega arith)
-same_no_more (x ∷ a) (y ∷ b) zero h k e = rw (ne_eqb x y e)
-same_no_more (x ∷ a) (y ∷ b) (suc i) h k e =
-    never (eqb x y) ∙ ap (λ (t : Bool). cond (eqb x y) t false) (same_no_more a b i (omega arith) (omega arith) e)
+turn [] b i h k = absurd (omega arith)
+turn (x ∷ a) [] i h k = absurd (omega arith)
+turn (x ∷ a) (y ∷ b) zero h k = last (eqb x y)
+turn (x ∷ a) (y ∷ b) (suc i) h k = behind (eqb x y) _ _ _ (turn a b i (omega arith) (omega arith))
+
+pub same_turn : (a b : List ℕ) {i j x y : ℕ} {t : Bool} → t ≡ same (take i a) (take i b) → x ≡ get_or a i 0 → y ≡ get_or b i 0 → i < length a → i < length b → j ≡ i + 1
+    → t && eqb x y ≡ same (take j a) (take j b)
+same_turn a b {i} e f g h k l = rw (e, f, g, l, add-one i) (turn a b i h k)

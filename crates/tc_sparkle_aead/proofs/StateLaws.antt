@@ -5,7 +5,7 @@ use lib.Bits.{xor_lt, xor_zero_r}
 use lib.ListN.{length-replicate, replicate-append-replicate}
 use lib.Seq.{take-append-le}
 use Rattle.sparkle.specs.Words.{Words}
-use Rattle.sparkle.proofs.Below.{below_at, below_set}
+use Rattle.sparkle.proofs.Below.{below_at, below_set, below-take}
 use Rattle.schwaemm.specs.Schwaemm.{Params, Sizes}
 use Rattle.schwaemm.proofs.States.{state_length}
 use Rattle.tc_sparkle_aead.specs.Message.{zeros, in_array, state_in, put_state, xor_last}
@@ -66,6 +66,14 @@ module _ (p : Params) where
   pub words-xor_last : (x : ℕ) {s : List ℕ} → x < 2 ^ 32 → Words s → Words (xor_last p x s)
   unfolding xor_last
   words-xor_last x {s} hx ws = below_set (state_length p - 1) (xor_lt 32 _ x (below_at ws (state_length p - 1)) hx) ws
+
+  -- the state that is loaded from an array
+  pub length-loaded : (x : ℕ) (words : List ℕ) → state_length p ≤ length words → length (xor_last p x (state_in p words)) ≡ state_length p
+  length-loaded x words h = length-xor_last x (state_in p words) ∙ state-length words h
+
+  pub words-loaded : (x : ℕ) {words : List ℕ} → x < 2 ^ 32 → Words words → Words (xor_last p x (state_in p words))
+  unfolding state_in
+  words-loaded x h w = words-xor_last x h (below-take (state_length p) w)
 
   pub xor_last-none : (s : List ℕ) → xor_last p 0 s ≡ s
   unfolding xor_last

@@ -1,18 +1,16 @@
 -- The tag's bytes: the capacity's bytes xored with the key's.
-use Rattle.std.proofs.Common.{◌≡◌, ℕ, ◌+◌, ◌*◌, ◌/◌, ◌<◌, ◌≤◌, List, ◌++◌, length, get_or, take, drop, sym, refl, ap, ◌∙◌, arith, length-drop, take-append-drop, length-take, length-take-le, get_or-drop, get_or-take, take_at, w8}
+use Rattle.std.proofs.Common.{◌≡◌, ℕ, ◌*◌, ◌/◌, ◌≤◌, List, ◌++◌, length, take, drop, sym, ap, ◌∙◌, arith, length-drop, take-append-drop, length-take-le, take_at, w8}
 use mir.Val.{Val}
 use denote.Array.{each}
 use denote.Plain.{UInt}
 use denote.Shadow.{shadow}
 use borrow.Author.Rules.{elem_Fits}
 use lib.Seq.{drop-append-le}
-use lib.Bits.{bit_xor}
 use Rattle.sparkle.specs.Words.{Bytes}
 use Rattle.sparkle.specs.Sparkle.{xors}
-use Rattle.sparkle.proofs.Lengths.{length-xors}
 use Rattle.schwaemm.specs.Bytes.{to_words, to_bytes}
 use Rattle.schwaemm.specs.Schwaemm.{Params, Sizes, inner, tag_of}
-use Rattle.schwaemm.proofs.Xors.{xors-at, xors_enough}
+use Rattle.schwaemm.proofs.Xors.{xors_enough}
 use Rattle.sparkle.proofs.Below.{below_of, below-take}
 use Rattle.schwaemm.proofs.ByteWords.{length-to_bytes, to_bytes-to_words, to_bytes-append, to_bytes-drop, to_bytes-xors}
 use Rattle.schwaemm.proofs.States.{state_length}
@@ -27,16 +25,6 @@ array-bytes b us p = below_of b (λ i. (elem_Fits w8 w8 b us i p tt).fits)
 -- the bytes of the tag, of the state's bytes and the key
 abbrev pub tag_bytes : List ℕ → List ℕ → ℕ → ℕ → List ℕ
 tag_bytes state key rate n = xors (drop rate state) (take n key)
-
-module _ (state key : List ℕ) (rate n : ℕ) (hs : length state ≡ 64) (hk : length key ≡ 32) (fits : rate + n ≤ 64) (small : n ≤ 32) where
-  pub length_tag_bytes : length (tag_bytes state key rate n) ≡ n
-  length_tag_bytes = simp (length-xors, length-drop, length-take) (omega arith)
-
-  pub tag_bytes_at : (i : ℕ) → i < n → bit_xor (get_or state (rate + i) 0) (get_or key i 0) ≡ get_or (tag_bytes state key rate n) i 0
-  tag_bytes_at i below =
-      let capacity : i < length (drop rate state) = simp length-drop (omega arith) in
-      let first = length-take-le n key (omega arith) in
-      rw (xors-at (drop rate state) (take n key) i capacity (omega arith), get_or-drop, get_or-take n key i 0) refl
 
 -- the specification's tag is these bytes
 pub tag_of-bytes : (p : Params) → Sizes p → Small p → (words key : List ℕ) → length words ≡ 16 → length key ≡ 32 → Bytes key

@@ -1,10 +1,10 @@
 -- What `whole.rt` makes of a packet, piece by piece and over plain variables: the specification's state after a header, and
 -- the point of the data from the words alone, where no bytes are held.
-use Rattle.std.proofs.Common.{◌≡◌, ℕ, ◌+◌, ◌-◌, ◌*◌, ◌<◌, ◌≤◌, Bool, true, false, cond, ltb, List, [], ◌∷◌, ◌++◌, length, take, drop, sym, refl, ap, ◌∙◌, ap₂, append-nil, arith, length-drop, drop_of_length-le, take_all, ltb-false}
+use Rattle.std.proofs.Common.{◌≡◌, ℕ, ◌+◌, ◌-◌, ◌*◌, ◌<◌, ◌≤◌, Bool, true, false, cond, ltb, List, [], ◌∷◌, ◌++◌, length, take, drop, sym, refl, ap, ◌∙◌, ap₂, append-nil, arith, length-drop, drop_of_length-le, take_all, ltb-false, Result, Ok, Err}
 use Rattle.schwaemm.specs.Bytes.{if_empty}
 use Rattle.schwaemm.specs.Blocks.{ready, after, given, held}
 use Rattle.schwaemm.specs.Schwaemm.{Params, leading, crypt, sealing, initialise, absorb_block, message_block, mix_last, absorb, prepared}
-use Rattle.schwaemm.proofs.Cut.{ready_bound, rest_below}
+use Rattle.schwaemm.proofs.Cut.{ready_bound}
 use Rattle.schwaemm.proofs.States.{length-initialise}
 use Rattle.schwaemm.proofs.RoundTrip.{length_crypted_blocks}
 use Rattle.tc_aead_cipher.specs.declared.variant.SparkleVariant.{SparkleVariant}
@@ -13,11 +13,7 @@ use Rattle.tc_aead_cipher.specs.declared.phase.Phase.{Phase}
 use Rattle.tc_aead_cipher.specs.declared.phase.Phase.TheVariants.{Data}
 use Rattle.tc_aead_cipher.specs.declared.aead_error.AeadError.{AeadError}
 use Rattle.tc_aead_cipher.specs.declared.aead_error.AeadError.TheVariants.{OutputTooShort, CiphertextTooShort, AuthenticationFailed}
-use Rattle.tc_aead_cipher.specs.declared.aead_error.AeadResult.{AeadResult}
-use Rattle.tc_aead_cipher.specs.declared.aead_error.AeadResult.TheVariants.{Ok, Err}
 use Rattle.tc_aead_cipher.specs.declared.aead_init_error.AeadInitError.{AeadInitError}
-use Rattle.tc_aead_cipher.specs.declared.aead_init_error.AeadInitResult.{AeadInitResult}
-use Rattle.tc_aead_cipher.specs.declared.aead_init_error.AeadInitResult.TheVariants.{Ok as Started, Err as Refused}
 use Rattle.tc_aead_cipher.specs.Variant.{params_of}
 use Rattle.tc_aead_cipher.specs.Checks.{direction_of, opening, keep, held_data, then, room, whole, phase_check, update_len, total_len, data_check, end_check, start_check}
 use Rattle.tc_aead_cipher.specs.Outcome.{outcome, start_outcome}
@@ -27,12 +23,11 @@ use Rattle.tc_aead_cipher.proofs.CheckLaws.{start_check_lengths}
 use Rattle.tc_sparkle_aead.specs.declared.message.Point.{Point}
 use Rattle.tc_sparkle_aead.specs.declared.message.Mac.{Mac}
 use Rattle.tc_sparkle_aead.specs.declared.message.End.{End}
-use Rattle.tc_sparkle_aead.specs.Message.{in_array, state_in, put_state, readable, buffered_count, buffered, stream, block_count, streamed, plain_by, plain_of, mask_of, xor_last, block_step, blocks_out, data_from, stream_out, written, seal_end, seal_out, open_end, open_out}
+use Rattle.tc_sparkle_aead.specs.Message.{in_array, state_in, put_state, readable, buffered_count, buffered, stream, block_count, streamed, plain_by, plain_of, xor_last, block_step, blocks_out, data_from, stream_out, written, seal_end, seal_out, open_end, open_out}
 use Rattle.tc_sparkle_aead.specs.Calls.{answered}
 use Rattle.tc_sparkle_aead.specs.Packet.{PacketResult, data_point, end_mac, end_bytes, point_end_by, point_end, variant_packet}
 use Rattle.tc_sparkle_aead.proofs.Fill.{length-zeros}
 use Rattle.tc_sparkle_aead.proofs.StateLaws.{all-in_array, xor_last-none, length-state_in}
-use Rattle.tc_sparkle_aead.proofs.StreamLaws.{mask-opens}
 use Rattle.tc_sparkle_aead.proofs.DataLaws.{data-room}
 use Rattle.tc_sparkle_aead.proofs.FinalLaws.{held_data_bound, sealing-room, opening-room, opening-whole}
 use Rattle.tc_sparkle_aead.proofs.PacketLaws.{header-last, packet_not_started, packet_no_room, packet-ended}
@@ -65,25 +60,22 @@ module _ (v : SparkleVariant) (key nonce header w : List ℕ) (start : w ≡ in_
   prepared-none none = start ∙ ap (in_array 16) (absorb-none (params_of v) (initialise (params_of v) key nonce) header none)
 
   pub prepared_some : (count rate : ℕ) → count ≡ ready (params_of v).rate 0 (length header) → rate ≡ (params_of v).rate
-      → 0 < length header → (w₁ buffer r : List ℕ)
+      → 0 < length header → (w₁ r : List ℕ)
       → w₁
       ≡ put_state (params_of v) w
       (after (params_of v).rate (block_step (params_of v) false false) count (xor_last (params_of v) 0 (state_in (params_of v) w)) header)
-      → buffer ≡ in_array 64 (take (length header - count * rate) (drop (count * rate) header))
-      → r ≡ put_state (params_of v) w₁ (mix_last (params_of v) 0 (state_in (params_of v) w₁) (take (length header - count * rate) buffer))
+      → r ≡ put_state (params_of v) w₁ (mix_last (params_of v) 0 (state_in (params_of v) w₁) (take (length header - count * rate) (drop (count * rate) header)))
       → r ≡ in_array 16 (prepared (params_of v) key nonce header)
   unfolding prepared leading
-  prepared_some count rate ec er some w₁ buffer r ew eb e =
+  prepared_some count rate ec er some w₁ r ew e =
       let p = params_of v in
       let s = initialise p key nonce in
       let rest = length header - count * rate in
       let words : w₁ ≡ put_state p (in_array 16 s) (after p.rate (absorb_block p) count (state_in p (in_array 16 s)) header) =
       ew ∙ rw (xor_last-none p (state_in p w), step-absorb p, start) refl in
-      let few : rest ≤ 64 = rw (er, ec) (omega (arith, rest_below p.rate 0 (sizes v).rate_positive (length header), small v)) in
-      let block : take rest buffer ≡ drop (count * p.rate) header =
-      rw (eb, rest_all header (count * rate) rest refl, ← er)
-      (all-in_array rest 64 (drop (count * rate) header) (length-drop (count * rate) header) few) in
-      e ∙ header-last p (sizes v) (small v) s header w₁ (take rest buffer) count (length-initialise p (sizes v) key nonce) some ec words block
+      let block : take rest (drop (count * rate) header) ≡ drop (count * p.rate) header =
+      rest_all header (count * rate) rest refl ∙ ap (λ (k : ℕ). drop (count * k) header) er in
+      e ∙ header-last p (sizes v) (small v) s header w₁ (take rest (drop (count * rate) header)) count (length-initialise p (sizes v) key nonce) some ec words block
 
 -- ---- The data.
 
@@ -126,20 +118,20 @@ module _ (p : Params) (d : Direction) (words input : List ℕ) where
       ap₂ (λ (n : ℕ) (t : List ℕ). given p.rate (message_block p (plain_of p (Data d))) (crypt p) n (state_in p words) t)
       (ec ∙ sym (count_none (keep p (Data d)))) (sym stream-none)
 
-module _ (v : SparkleVariant) (d : Direction) (words input : List ℕ) (mask count : ℕ)
-    (em : mask ≡ mask_of (opening (Data d)))
+module _ (v : SparkleVariant) (d : Direction) (words input : List ℕ) (opens : Bool) (count : ℕ)
+    (em : opens ≡ opening (Data d))
     (ec : count ≡ ready (params_of v).rate (keep (params_of v) (Data d)) (length input)) where
-  -- the blocks that the mask asks for are those of the message
-  the_step : block_step (params_of v) false (ltb 0 mask) ≡ message_block (params_of v) (plain_of (params_of v) (Data d))
+  -- the blocks that the direction asks for are those of the message
+  the_step : block_step (params_of v) false opens ≡ message_block (params_of v) (plain_of (params_of v) (Data d))
   unfolding plain_of
-  the_step = ap (block_step (params_of v) false) (mask-opens (opening (Data d)) mask em) ∙ step-message (params_of v) (opening (Data d))
+  the_step = ap (block_step (params_of v) false) em ∙ step-message (params_of v) (opening (Data d))
 
   pub data-point : (rate : ℕ) → rate ≡ (params_of v).rate → (w buffer : List ℕ)
       → w
       ≡ put_state (params_of v) words
-      (after (params_of v).rate (block_step (params_of v) false (ltb 0 mask)) count (xor_last (params_of v) 0 (state_in (params_of v) words)) input)
+      (after (params_of v).rate (block_step (params_of v) false opens) count (xor_last (params_of v) 0 (state_in (params_of v) words)) input)
       → buffer ≡ in_array 64 (take (length input - count * rate) (drop (count * rate) input))
-      → ◌≡◌ {A = Point} (record { phase = Data d; words = w; buffer = buffer; held = length input - count * rate })
+      → ◌≡◌ {A = Point} (record { phase = Data d; words = w; buffer = buffer; held = length (take (length input - count * rate) (drop (count * rate) input)) })
       (data_from (params_of v) (data_point d words) input).point
   unfolding held data_point
   data-point rate er w buffer ew eb =
@@ -152,12 +144,12 @@ module _ (v : SparkleVariant) (d : Direction) (words input : List ℕ) (mask cou
       let left : take rest (drop (count * rate) input) ≡ held p.rate k input =
       rest_all input (count * rate) rest refl ∙ ap (λ (n : ℕ). drop n input) gone in
       let eb' = eb ∙ ap (in_array 64) left in
-      let eh : rest ≡ length (held p.rate k input) = sym (ap length (sym left) ∙ ap length (rest_all input (count * rate) rest refl) ∙ length-drop (count * rate) input) in
+      let eh = ap length left in
       (λ i. record { phase = Data d; words = ew' i; buffer = eb' i; held = eh i })
       ∙ streamed-none p d words input k (message_block p (plain_of p (Data d)))
 
   pub data-written : length words ≡ 16 → (write : Bool) (out out₁ : List ℕ)
-      → out₁ ≡ blocks_out (params_of v) false (ltb 0 mask) write count (xor_last (params_of v) 0 (state_in (params_of v) words)) input out
+      → out₁ ≡ blocks_out (params_of v) false opens write count (xor_last (params_of v) 0 (state_in (params_of v) words)) input out
       → out₁ ≡ cond write (written (stream_out (params_of v) (data_point d words) input) out) out
   unfolding blocks_out written stream_out block_count
   data-written hw false out out₁ e = e
@@ -174,30 +166,30 @@ module _ (v : SparkleVariant) (d : Direction) (words input : List ℕ) (mask cou
 
 -- ---- What a check counts is at most what the output holds.
 
-abbrev is_ok : AeadResult → ℕ
+abbrev is_ok : Result ℕ AeadError → ℕ
 is_ok (Ok n) = 1
 is_ok (Err e) = 0
 
-abbrev count_of : AeadResult → ℕ
+abbrev count_of : Result ℕ AeadError → ℕ
 count_of (Ok n) = n
 count_of (Err e) = 0
 
-ok-count : {m n : ℕ} → ◌≡◌ {A = AeadResult} (Ok m) (Ok n) → m ≡ n
+ok-count : {m n : ℕ} → ◌≡◌ {A = Result ℕ AeadError} (Ok m) (Ok n) → m ≡ n
 ok-count e = ap count_of e
 
-not-ok : {x : AeadError} {n : ℕ} → ◌≡◌ {A = AeadResult} (Err x) (Ok n) → ⊥
+not-ok : {x : AeadError} {n : ℕ} → ◌≡◌ {A = Result ℕ AeadError} (Err x) (Ok n) → ⊥
 not-ok e =
     let z : ◌≡◌ {A = ℕ} 0 1 = ap is_ok e in omega arith
 
 -- an answer's count is at most a
-abbrev Below : ℕ → AeadResult → Type 0
+abbrev Below : ℕ → Result ℕ AeadError → Type 0
 Below a r = (n : ℕ) → r ≡ Ok n → n ≤ a
 
-then-below : (a : ℕ) (k : AeadResult) (f : ℕ → AeadResult) → ((m : ℕ) → Below a (f m)) → Below a (then k f)
+then-below : (a : ℕ) (k : Result ℕ AeadError) (f : ℕ → Result ℕ AeadError) → ((m : ℕ) → Below a (f m)) → Below a (then k f)
 then-below a (Ok m) f h n e = h m n e
 then-below a (Err x) f h n e = absurd (not-ok e)
 
-then_keeps : (a : ℕ) (k : AeadResult) (f : ℕ → AeadResult) → Below a k → ((m n : ℕ) → f m ≡ Ok n → m ≡ n) → Below a (then k f)
+then_keeps : (a : ℕ) (k : Result ℕ AeadError) (f : ℕ → Result ℕ AeadError) → Below a k → ((m n : ℕ) → f m ≡ Ok n → m ≡ n) → Below a (then k f)
 then_keeps a (Ok m) f h g n e =
     let q = g m n e in
     let b = h m refl in omega (arith, q, b)
@@ -251,15 +243,11 @@ part_to_end out last n =
     ap (λ (l : List ℕ). take n out ++ l) (ap (λ (l : List ℕ). last ++ l) none ∙ append-nil last)
 
 -- the end at a point in Data, behind n bytes of the output; k is the key in an array
-module _ (v : SparkleVariant) (at : Point) (key : List ℕ) (n : ℕ) (out : List ℕ) (answer : AeadResult)
+module _ (v : SparkleVariant) (at : Point) (key : List ℕ) (n : ℕ) (out : List ℕ) (answer : Result ℕ AeadError)
     (checked : answer ≡ end_check (params_of v) at.phase at.held (length out - n)) where
-  end_by_lem : (a : AeadResult) → answer ≡ a → point_end_by a n (params_of v) key at out ≡ point_end n (params_of v) key at out
+  end_by_lem : (a : Result ℕ AeadError) → answer ≡ a → point_end_by a n (params_of v) key at out ≡ point_end n (params_of v) key at out
   unfolding point_end
-  end_by_lem a is = ap (λ (x : AeadResult). point_end_by x n (params_of v) key at out) (sym is ∙ checked)
-
-  pub end_refused : (x : AeadError) → answer ≡ Err x
-      → record { reply = reply_of (outcome answer); out = out } ≡ point_end n (params_of v) key at out
-  end_refused x is = ap (λ (a : AeadResult). record { reply = reply_of (outcome a); out = out }) is ∙ end_by_lem (Err x) is
+  end_by_lem a is = ap (λ (x : Result ℕ AeadError). point_end_by x n (params_of v) key at out) (sym is ∙ checked)
 
   module _ (m : ℕ) (passed : answer ≡ Ok m) where
     pub end_fits : n ≤ length out → n + m ≤ length out
@@ -358,27 +346,23 @@ unfolding data_point streamed
 whole_in_data p d words input at e =
     let is : at.phase ≡ Data d = ap (λ (x : Point). x.phase) e in is ∙ ap (λ (x : Phase). Data (direction_of x)) (sym is)
 
-module _ (v : SparkleVariant) (d : Direction) (key nonce header input out : List ℕ) (start : AeadInitResult) (size : ℕ)
+module _ (v : SparkleVariant) (d : Direction) (key nonce header input out : List ℕ) (start : Result (Unit {0}) AeadInitError) (size : ℕ)
     (es : size ≡ (params_of v).key) (ec : start ≡ start_check v d (length key) (length nonce) size false) where
   start_is : start ≡ start_check v d (length key) (length nonce) (params_of v).key false
   start_is = rw es at ec
 
-  pub whole_not_started : (x : AeadInitError) → start ≡ Refused x
-      → record { reply = reply_of (start_outcome start); out = out } ≡ variant_packet v d key nonce header input out
-  whole_not_started x is =
-      ap (λ (r : AeadInitResult). record { reply = reply_of (start_outcome r); out = out }) is
-      ∙ sym (packet_not_started v d key nonce header input out x (sym start_is ∙ is))
+  pub whole_not_started : (x : AeadInitError) → start ≡ Err x
+      → record { reply = reply_of (start_outcome (Err x)); out = out } ≡ variant_packet v d key nonce header input out
+  whole_not_started x is = sym (packet_not_started v d key nonce header input out x (sym start_is ∙ is))
 
-  module _ (accepted : start ≡ Started) (answer : AeadResult)
+  module _ (accepted : start ≡ Ok tt) (answer : Result ℕ AeadError)
       (ea : answer ≡ data_check (params_of v) (Data d) 0 (length input) (length out)) where
-    taken : start_check v d (length key) (length nonce) (params_of v).key false ≡ Started
+    taken : start_check v d (length key) (length nonce) (params_of v).key false ≡ Ok tt
     taken = sym start_is ∙ accepted
 
     pub whole_no_room : (x : AeadError) → answer ≡ Err x
-        → record { reply = reply_of (outcome answer); out = out } ≡ variant_packet v d key nonce header input out
-    whole_no_room x is =
-        ap (λ (r : AeadResult). record { reply = reply_of (outcome r); out = out }) is
-        ∙ sym (packet_no_room v d key nonce header input out taken x (sym ea ∙ is))
+        → record { reply = reply_of (outcome (Err x)); out = out } ≡ variant_packet v d key nonce header input out
+    whole_no_room x is = sym (packet_no_room v d key nonce header input out taken x (sym ea ∙ is))
 
     pub whole-ended : (n : ℕ) → answer ≡ Ok n → (words : List ℕ) → words ≡ in_array 16 (prepared (params_of v) key nonce header)
         → (at : Point) → at ≡ (data_from (params_of v) (data_point d words) input).point

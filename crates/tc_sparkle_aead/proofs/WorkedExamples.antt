@@ -1,6 +1,6 @@
 -- The lines of document 01, "Worked by hand", that are marked P, as one table on the definitions that the calls'
 -- contracts cite, and the one theorem that proves it.
-use Rattle.std.proofs.Common.{◌≡◌, ℕ, ◌-◌, ◌^◌, List, [], ◌∷◌, length, refl, ap, zero-le, arith, le-ltb}
+use Rattle.std.proofs.Common.{◌≡◌, ℕ, ◌-◌, ◌^◌, List, [], ◌∷◌, length, refl, ap, zero-le, arith, le-ltb, Result, Ok, Err}
 use Rattle.sparkle.proofs.WorkedExamples.{ell_of_one, ell_of_two_halves}
 use Rattle.sparkle.specs.Words.{ell, rotr}
 use Rattle.schwaemm.specs.Blocks.{ready}
@@ -18,8 +18,7 @@ use Rattle.tc_aead_cipher.specs.declared.phase.Phase.{Phase}
 use Rattle.tc_aead_cipher.specs.declared.phase.Phase.TheVariants.{Uninitialized, Init, Aad}
 use Rattle.tc_sparkle_aead.specs.declared.engine.SparkleEngine.{SparkleEngine}
 use Rattle.tc_aead_cipher.specs.declared.aead_error.AeadError.TheVariants.{CiphertextTooShort, InputTooLong}
-use Rattle.tc_aead_cipher.specs.declared.aead_error.AeadResult.TheVariants.{Ok, Err}
-use Rattle.tc_aead_cipher.specs.declared.aead_init_error.AeadInitResult.{AeadInitResult}
+use Rattle.tc_aead_cipher.specs.declared.aead_init_error.AeadInitError.{AeadInitError}
 use Rattle.tc_aead_cipher.proofs.CheckLaws.{start_check-opening}
 
 -- An engine of a variant that stands in a phase, whatever else it holds.
@@ -80,9 +79,9 @@ after-init key nonce (x ∷ header) k n h =
     let again = repeats p (new_engine Schwaemm128_128).pair key nonce in
     let taken = start_check-opening Schwaemm128_128 Decrypt (length key) (length nonce) 16 again k n refl refl in
     record {
-      variant = ap (λ (r : AeadInitResult). (init_by r (new_engine Schwaemm128_128) Decrypt key nonce (x ∷ header)).engine.variant) taken;
+      variant = ap (λ (r : Result (Unit {0}) AeadInitError). (init_by r (new_engine Schwaemm128_128) Decrypt key nonce (x ∷ header)).engine.variant) taken;
       phase-is =
-          ap (λ (r : AeadInitResult). (init_by r (new_engine Schwaemm128_128) Decrypt key nonce (x ∷ header)).engine.current.phase) taken;
+          ap (λ (r : Result (Unit {0}) AeadInitError). (init_by r (new_engine Schwaemm128_128) Decrypt key nonce (x ∷ header)).engine.current.phase) taken;
     }
 
 ended_after_init : (key nonce header out : List ℕ) → length key ≡ 16 → length nonce ≡ 16 → length header ≡ 16

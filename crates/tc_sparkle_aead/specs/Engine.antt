@@ -1,10 +1,10 @@
 -- The engine's records: what a new engine is, what the length queries answer, and the definitions through which the
 -- remembered pair and the step count are reached.
-use Rattle.std.specs.Prelude.{ℕ, Bool, true, false, cond, List, take}
+use Rattle.std.specs.Prelude.{ℕ, Bool, true, false, cond, List, take, Result}
 use Rattle.schwaemm.specs.Bytes.{same}
 use Rattle.schwaemm.specs.Schwaemm.{Params}
 use Rattle.tc_aead_cipher.specs.declared.variant.SparkleVariant.{SparkleVariant}
-use Rattle.tc_aead_cipher.specs.declared.aead_error.AeadResult.{AeadResult}
+use Rattle.tc_aead_cipher.specs.declared.aead_error.AeadError.{AeadError}
 use Rattle.tc_sparkle_aead.specs.declared.engine.Pair.{Pair}
 use Rattle.tc_sparkle_aead.specs.declared.engine.Steps.{Steps}
 use Rattle.tc_sparkle_aead.specs.declared.engine.SparkleEngine.{SparkleEngine}
@@ -47,8 +47,8 @@ new_engine v =
     record { variant = v; current = no_message; initial = no_message; pair = no_pair; mac = no_mac; steps = no_steps }
 
 -- The length queries.
-unfoldable pub update_output_len : SparkleEngine → ℕ → AeadResult
+unfoldable pub update_output_len : SparkleEngine → ℕ → Result ℕ AeadError
 update_output_len e n = update_len (params_of e.variant) e.current.phase e.current.held n
 
-unfoldable pub output_len : SparkleEngine → ℕ → AeadResult
+unfoldable pub output_len : SparkleEngine → ℕ → Result ℕ AeadError
 output_len e n = total_len (params_of e.variant) e.current.phase e.current.held n

@@ -1,8 +1,8 @@
 -- A message and its points: what a start, a header, the data, an end and a reset make of one (document 01, "Down to the
 -- block"). Nothing here knows the engine.
-use Rattle.std.specs.Prelude.{ℕ, ◌+◌, ◌-◌, ◌*◌, ◌/◌, min, Bool, true, false, cond, List, [], ◌∷◌, ◌++◌, length, take, drop, replicate, bit_and, bit_xor, nat_lt, slice_index, slice_set}
+use Rattle.std.specs.Prelude.{◌≡◌, ℕ, ◌+◌, ◌-◌, ◌*◌, ◌/◌, ◌%◌, ◌≤◌, ◌<◌, min, Bool, true, false, cond, List, [], ◌∷◌, ◌++◌, length, take, drop, replicate, bit_and, bit_xor, nat_lt, slice_index, slice_set}
 use Rattle.sparkle.specs.Sparkle.{xors}
-use Rattle.schwaemm.specs.Schwaemm.{Params, schwaemm256_128, schwaemm192_192, outer, inner, rho1, whitening, mix, crypt, mix_last, initialise, absorb_block, sealing as sealingBlock, opening as openingBlock, message_block, tag_of}
+use Rattle.schwaemm.specs.Schwaemm.{Params, schwaemm256_128, schwaemm192_192, Sizes, outer, inner, rho1, whitening, mix, crypt, mix_last, initialise, absorb_block, sealing as sealingBlock, opening as openingBlock, message_block, tag_of}
 use Rattle.schwaemm.specs.Bytes.{if_empty, same}
 use Rattle.schwaemm.specs.Blocks.{ready, after, given, held}
 use Rattle.tc_aead_cipher.specs.declared.phase.Phase.TheVariants.{Uninitialized, Init, Aad, Data, Final}
@@ -26,9 +26,13 @@ in_array n l = take n (l ++ zeros n)
 
 -- ---- A point of a message
 
+-- A point where no bytes are held.
+abbrev pub empty_point : Phase → List ℕ → Point
+empty_point phase words = record { phase = phase; words = words; buffer = zeros 64; held = 0 }
+
 -- No message: Uninitialized, everything wiped.
 unfoldable pub no_message : Point
-no_message = record { phase = Uninitialized; words = zeros 16; buffer = zeros 64; held = 0 }
+no_message = empty_point Uninitialized (zeros 16)
 
 -- No readable tag, and one.
 unfoldable pub no_mac : Mac
@@ -80,8 +84,7 @@ streamed p keep next phase at input =
 
 -- The point after the start, before the initial header.
 unfoldable pub start_point : Params → Direction → List ℕ → List ℕ → Point
-start_point p d key nonce =
-    record { phase = Init d; words = in_array 16 (initialise p key nonce); buffer = zeros 64; held = 0 }
+start_point p d key nonce = empty_point (Init d) (in_array 16 (initialise p key nonce))
 
 -- A header that is not empty is absorbed and leads to Aad.
 unfoldable pub absorb_header : Params → Direction → Point → List ℕ → Point
@@ -96,16 +99,11 @@ header_steps p at header = block_count p 0 at header * p.slim
 
 -- Where the data begins: without a header; and after one, whose last block is taken up.
 unfoldable pub without_header : Direction → Point → Point
-without_header d at = record { phase = Data d; words = at.words; buffer = zeros 64; held = 0 }
+without_header d at = empty_point (Data d) at.words
 
 unfoldable pub after_header : Params → Direction → Point → Point
 after_header p d at =
-    record {
-      phase = Data d;
-      words = put_state p at.words (mix_last p 0 (state_in p at.words) (take (min at.held p.rate) at.buffer));
-      buffer = zeros 64;
-      held = 0;
-    }
+    empty_point (Data d) (put_state p at.words (mix_last p 0 (state_in p at.words) (take (min at.held p.rate) at.buffer)))
 
 -- The point where the data begins, and the steps that this runs. A point where it has begun stays.
 abbrev pub begin_point : Params → Phase → Point → Point
@@ -150,6 +148,19 @@ xor_block p mask s block =
 unfoldable pub xor_last : Params → ℕ → List ℕ → List ℕ
 xor_last p x s = slice_set s ((p.rate + p.key) / 4 - 1) (bit_xor (slice_index s ((p.rate + p.key) / 4 - 1)) x)
 
+-- The parameters of a state of so many words, `rate` of them the rate's.
+abbrev pub sized : (words rate slim big : ℕ) → Params
+sized words rate slim big = record { rate = rate * 4; key = (words - rate) * 4; slim = slim; big = big }
+
+-- What the engine's arrays and the permutation ask of the sizes besides: a block has at most eight words, a state 8, 12
+-- or 16.
+pub record Fits (p : Params) : Type 0 where
+  pub sizes : Sizes p
+  pub block : p.rate ≤ 32
+  pub least : 32 ≤ p.rate + p.key
+  pub most : p.rate + p.key ≤ 64
+  pub halves : (p.rate + p.key) % 16 ≡ 0
+
 -- The two variants with a state of 12 words.
 unfoldable pub wide_params : Bool → Params
 wide_params wide = cond wide schwaemm256_128 schwaemm192_192
@@ -166,6 +177,12 @@ blocks_out p big opens write count s input out =
 -- Of `count` blocks, how many have held bytes in them.
 unfoldable pub held_blocks : Params → (held count : ℕ) → ℕ
 held_blocks p held count = min count ((held + p.rate - 1) / p.rate)
+
+-- They are few enough for the array, and behind them no byte is held.
+pub record Held (p : Params) (held count first : ℕ) : Type 0 where
+  pub some : first ≤ count
+  pub small : first * p.rate ≤ 64
+  pub all : first < count → held ≤ first * p.rate
 
 -- The state that makes nonce and key of the nonce when it takes it up: the right half of the rate is the whitening's left
 -- half, and the left one both of its halves xored.
@@ -252,7 +269,7 @@ open_out p key at = open_out_by (tag_matches p key at) p at
 
 -- The message has ended: words and buffer are wiped, the point after init stays.
 unfoldable pub final_point : Direction → Point
-final_point d = record { phase = Final d; words = zeros 16; buffer = zeros 64; held = 0 }
+final_point d = empty_point (Final d) (zeros 16)
 
 -- Sealing in Data or Final ends in Final; sealing in Init or Aad, and every opening phase, returns to the point after init.
 abbrev pub reset_point : Phase → Point → Point

@@ -1,12 +1,11 @@
 -- A whole packet at once: init on a new engine, one data call and the end. And the same end at a point of the data, for the
 -- code that puts no engine together.
-use Rattle.std.specs.Prelude.{ℕ, ◌+◌, ◌-◌, Bool, cond, List, ◌++◌, length, take, drop}
+use Rattle.std.specs.Prelude.{ℕ, ◌+◌, ◌-◌, Bool, cond, List, ◌++◌, length, take, drop, Result, Ok, Err}
 use Rattle.schwaemm.specs.Schwaemm.{Params}
 use Rattle.tc_aead_cipher.specs.declared.variant.SparkleVariant.{SparkleVariant}
 use Rattle.tc_aead_cipher.specs.declared.phase.Direction.{Direction}
 use Rattle.tc_aead_cipher.specs.declared.phase.Phase.TheVariants.{Data}
-use Rattle.tc_aead_cipher.specs.declared.aead_error.AeadResult.{AeadResult}
-use Rattle.tc_aead_cipher.specs.declared.aead_error.AeadResult.TheVariants.{Ok, Err}
+use Rattle.tc_aead_cipher.specs.declared.aead_error.AeadError.{AeadError}
 use Rattle.tc_aead_cipher.specs.declared.reply.Reply.{Reply}
 use Rattle.tc_aead_cipher.specs.Variant.{params_of}
 use Rattle.tc_aead_cipher.specs.Checks.{opening, end_check}
@@ -16,7 +15,7 @@ use Rattle.tc_aead_cipher.specs.Reply.{reply_of}
 use Rattle.tc_sparkle_aead.specs.declared.message.Point.{Point}
 use Rattle.tc_sparkle_aead.specs.declared.message.Mac.{Mac}
 use Rattle.tc_sparkle_aead.specs.declared.engine.SparkleEngine.{SparkleEngine}
-use Rattle.tc_sparkle_aead.specs.Message.{zeros, written, seal_end, seal_out, open_end, open_out}
+use Rattle.tc_sparkle_aead.specs.Message.{empty_point, written, seal_end, seal_out, open_end, open_out}
 use Rattle.tc_sparkle_aead.specs.Engine.{new_engine}
 use Rattle.tc_sparkle_aead.specs.Calls.{answered}
 use Rattle.tc_sparkle_aead.specs.Sheet.{step}
@@ -60,7 +59,7 @@ variant_packet v d key nonce header input out =
 
 -- The point where the data begins, from the words of its state.
 unfoldable pub data_point : Direction → List ℕ → Point
-data_point d words = record { phase = Data d; words = words; buffer = zeros 64; held = 0 }
+data_point d words = empty_point (Data d) words
 
 -- The tag that an end gives, and what it writes.
 abbrev pub end_mac : Bool → Params → (key : List ℕ) → Point → Mac
@@ -70,7 +69,7 @@ abbrev pub end_bytes : Bool → Params → (key : List ℕ) → Point → List �
 end_bytes opens p key at = cond opens (open_out p key at) (seal_out p key at)
 
 -- The end at a point of the data under a key, behind the n bytes that are written: by its check.
-abbrev pub point_end_by : AeadResult → ℕ → Params → (key : List ℕ) → Point → List ℕ → PacketResult
+abbrev pub point_end_by : Result ℕ AeadError → ℕ → Params → (key : List ℕ) → Point → List ℕ → PacketResult
 point_end_by (Err x) n p key at out = record { reply = reply_of (outcome (Err x)); out = out }
 point_end_by (Ok m) n p key at out =
     record {

@@ -2,19 +2,20 @@
 // value and comes back by value. Each contract is an equation with a definition for the reply, the
 // engine and the lent output, for every engine value.
 ghost use Rattle.std.specs.Prelude.{◌≡◌, length};
-ghost use Rattle.tc_aead_cipher.specs.declared.aead_error.AeadResult.TheVariants.{Ok};
 ghost use Rattle.tc_sparkle_aead.specs.Engine.{update_output_len, output_len};
 ghost use Rattle.tc_sparkle_aead.specs.Calls.{init, process_aad_bytes, data_answer, process_bytes, process_bytes_out, do_final, do_final_out, reset, mac_of, steps_now};
 
-use super::engine::{Done, SparkleEngine, Started, Steps};
-use super::message::Mac;
-use super::{engine, message};
-use tc_aead_cipher::aead_error::AeadResult;
-use tc_aead_cipher::aead_init_error::AeadInitResult;
+use super::engine::{Done, SparkleEngine, Steps};
+use super::message;
+use super::message::{Mac, Start};
+use tc_aead_cipher::aead_error::AeadError;
+use tc_aead_cipher::aead_init_error::AeadInitError;
 use tc_aead_cipher::checks;
 use tc_aead_cipher::phase::Direction;
 
-// Ends the old message and starts a new one.
+// Ends the old message and starts a new one. Key, nonce, size and header side by side: document 01 has the
+// four so first, and then the struct, `AeadParamsRef`.
+#[tactic(auto, using(crate::proofs::InitLaws::init_taken, crate::proofs::InitLaws::init_refused, crate::proofs::InitLaws::started_by_variant, tc_aead_cipher::proofs::CheckLaws::start_check_lengths))]
 pub fn init(
     e: SparkleEngine,
     direction: Direction,
@@ -22,166 +23,161 @@ pub fn init(
     nonce: &[u8],
     mac_size: usize,
     initial_aad: &[u8],
-) -> Started
+) -> Done<Result<(), AeadInitError>>
     ensures { result ≡ init e direction key.now nonce.now mac_size initial_aad.now }
 {
     let variant = e.variant;
-    let pair = e.pair;
-    let again = engine::repeats(variant, pair, key, nonce);
+    let again = e.pair.repeats(variant, key, nonce);
     let answer = checks::start_check(variant, direction, key.len(), nonce.len(), mac_size, again);
-    let AeadInitResult::Ok = answer else {
-        return Started {
+    let Ok(()) = answer else {
+        return Done {
             answer,
-            engine: engine::refused(e),
+            engine: e.refused(),
         };
     };
-    Started {
+    let start = Start {
+        variant,
+        key,
+        nonce,
+        header: initial_aad,
+    };
+    Done {
         answer,
-        engine: engine::start(variant, direction, key, nonce, initial_aad),
+        engine: SparkleEngine::start(start, direction),
     }
 }
 
 // Adds associated data to the message.
 #[tactic(auto, using(crate::proofs::HeaderLaws::aad_empty, crate::proofs::HeaderLaws::aad_refused, crate::proofs::HeaderLaws::aad_taken))]
-pub fn process_aad_bytes(e: SparkleEngine, input: &[u8]) -> Done
+pub fn process_aad_bytes(e: SparkleEngine, input: &[u8]) -> Done<Result<usize, AeadError>>
     ensures { result ≡ process_aad_bytes e input.now }
 {
-    let variant = e.variant;
-    let at = e.current;
-    let phase = at.phase;
-    if input.len() == 0 {
+    if input.is_empty() {
         return Done {
-            answer: AeadResult::Ok(0),
+            answer: Ok(0),
             engine: e,
         };
     }
-    let answer = checks::header_check(phase);
-    let AeadResult::Ok(_) = answer else {
+    let at = e.current;
+    let answer = checks::header_check(at.phase);
+    let Ok(_) = answer else {
         return Done { answer, engine: e };
     };
-    let next = message::absorb(variant, checks::direction(phase), at, input);
+    let next = at.absorb(e.variant, checks::direction(at.phase), input);
     Done {
         answer,
-        engine: engine::at_point(e, next, message::header_steps(variant, at, input)),
+        engine: e.at_point(next, at.header_steps(e.variant, input)),
     }
 }
 
 // An accepted data call. In a function of its own: the compiler would make one exit of this and of the
 // refusal (docs/PERFORMANCE.md).
-fn crypt_bytes(mut e: SparkleEngine, n: usize, input: &[u8], output: &mut [u8]) -> Done
+fn crypt_bytes(
+    e: SparkleEngine,
+    n: usize,
+    input: &[u8],
+    output: &mut [u8],
+) -> Done<Result<usize, AeadError>>
     requires { data_answer e (length input.now) (length output.old) ≡ Ok n }
     ensures value { result ≡ process_bytes e input.now output.old }
     ensures output_after { output.new ≡ process_bytes_out e input.now output.old }
 {
-    let variant = e.variant;
     let at = e.current;
-    let phase = at.phase;
-    let data_point = message::begin_data(variant, at);
-    let done = message::data_in(variant, data_point, input, output);
-    let s = e.steps;
-    let steps = engine::add_steps(s, message::begin_steps(variant, phase));
-    e.steps = steps;
+    let done = at.begin_data(e.variant).data_in(e.variant, input, output);
+    let steps = e.steps.add(at.begin_steps(e.variant)).add(done.steps);
     Done {
-        answer: AeadResult::Ok(n),
-        engine: engine::at_point(e, done.point, done.steps),
+        answer: Ok(n),
+        engine: SparkleEngine {
+            current: done.point,
+            steps,
+            ..e
+        },
     }
 }
 
 // Seals or opens the input that is ready and holds back the rest. A refused call leaves engine and
 // output as they were.
-pub fn process_bytes(e: SparkleEngine, input: &[u8], output: &mut [u8]) -> Done
+#[tactic(auto, using(crate::proofs::DataLaws::data_refused, crate::proofs::DataLaws::data_refused_out))]
+pub fn process_bytes(
+    e: SparkleEngine,
+    input: &[u8],
+    output: &mut [u8],
+) -> Done<Result<usize, AeadError>>
     ensures value { result ≡ process_bytes e input.now output.old }
     ensures output_after { output.new ≡ process_bytes_out e input.now output.old }
 {
-    let variant = e.variant;
-    let at = e.current;
-    let phase = at.phase;
-    let answer = checks::data_check(variant, phase, at.held, input.len(), output.len());
-    match answer {
-        AeadResult::Ok(n) => crypt_bytes(e, n, input, output),
-        AeadResult::Err(x) => Done {
-            answer: AeadResult::Err(x),
+    let held = e.current.as_held(e.variant);
+    match held.data_check(input.len(), output.len()) {
+        Ok(n) => crypt_bytes(e, n, input, output),
+        Err(x) => Done {
+            answer: Err(x),
             engine: e,
         },
     }
 }
 
 // Ends the message: appends the tag, or verifies it.
-pub fn do_final(e: SparkleEngine, output: &mut [u8]) -> Done
+pub fn do_final(e: SparkleEngine, output: &mut [u8]) -> Done<Result<usize, AeadError>>
     ensures value { result ≡ do_final e output.old }
     ensures output_after { output.new ≡ do_final_out e output.old }
 {
-    let variant = e.variant;
     let at = e.current;
-    let phase = at.phase;
-    let answer = checks::end_check(variant, phase, at.held, output.len());
-    let AeadResult::Ok(_) = answer else {
+    let answer = at.as_held(e.variant).end_check(output.len());
+    let Ok(_) = answer else {
         return Done { answer, engine: e };
     };
-    let data_point = message::begin_data(variant, at);
-    let pair = e.pair;
-    let key = pair.key;
-    let first = message::begin_steps(variant, phase);
-    if checks::opening(phase) {
-        let end = message::open_end(variant, data_point, key, output);
-        return engine::finish(e, answer, Direction::Decrypt, first, end);
+    let data_point = at.begin_data(e.variant);
+    let key = e.pair.key;
+    let first = at.begin_steps(e.variant);
+    if checks::opening(at.phase) {
+        let end = data_point.open_end(e.variant, key, output);
+        return e.finish(answer, Direction::Decrypt, first, end);
     }
-    let end = message::seal_end(variant, data_point, key, output);
-    engine::finish(e, answer, Direction::Encrypt, first, end)
+    let end = data_point.seal_end(e.variant, key, output);
+    e.finish(answer, Direction::Encrypt, first, end)
 }
 
 // How many bytes the next data call of n bytes writes.
-pub fn update_output_len(e: SparkleEngine, n: usize) -> AeadResult
+#[tactic(auto, unfolding(crate::specs::Engine::update_output_len))]
+pub fn update_output_len(e: SparkleEngine, n: usize) -> Result<usize, AeadError>
     ensures { result ≡ update_output_len e n }
 {
-    let v = e.variant;
-    let at = e.current;
-    let phase = at.phase;
-    checks::update_len(v, phase, at.held, n)
+    e.current.as_held(e.variant).update_len(n)
 }
 
 // How many bytes data calls of n bytes and the end write together.
-pub fn output_len(e: SparkleEngine, n: usize) -> AeadResult
+#[tactic(auto, unfolding(crate::specs::Engine::output_len))]
+pub fn output_len(e: SparkleEngine, n: usize) -> Result<usize, AeadError>
     ensures { result ≡ output_len e n }
 {
-    let v = e.variant;
-    let at = e.current;
-    let phase = at.phase;
-    checks::total_len(v, phase, at.held, n)
+    e.current.as_held(e.variant).total_len(n)
 }
 
 // Drops the readable tag and restarts the message, unless a sealing has begun its data.
-pub fn reset(mut e: SparkleEngine) -> SparkleEngine
+#[tactic(auto, unfolding(crate::specs::Engine::init_steps, crate::specs::Engine::reset_steps, crate::specs::Calls::reset))]
+pub fn reset(e: SparkleEngine) -> SparkleEngine
     ensures { result ≡ reset e }
 {
-    let at = e.current;
-    let phase = at.phase;
-    let initial = e.initial;
-    let steps = e.steps;
-    let current = message::reset_point(phase, initial);
-    let mac = message::no_mac();
-    let back = Steps {
-        current: steps.initial,
-        initial: steps.initial,
-    };
-    e.current = current;
-    e.mac = mac;
-    e.steps = back;
-    e
+    SparkleEngine {
+        current: message::reset_point(e.current.phase, e.initial),
+        mac: Mac::none(),
+        steps: Steps::after_init(e.steps.initial),
+        ..e
+    }
 }
 
 // The tag after a successful end, until the next init or reset.
+#[tactic(auto, unfolding(crate::specs::Calls::mac_of))]
 pub fn mac(e: SparkleEngine) -> Mac
     ensures { result ≡ mac_of e }
 {
-    let m = e.mac;
-    if m.readable { m } else { message::no_mac() }
+    if e.mac.readable { e.mac } else { Mac::none() }
 }
 
 // The permutation steps of the current message, modulo 2^64.
+#[tactic(auto, unfolding(crate::specs::Calls::steps_now))]
 pub fn steps(e: SparkleEngine) -> u64
     ensures { result ≡ steps_now e }
 {
-    let s = e.steps;
-    s.current
+    e.steps.current
 }

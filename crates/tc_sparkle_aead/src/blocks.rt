@@ -3,674 +3,320 @@
 // are uses of it.
 //
 // The state stays in local words from block to block. What keeps it fast is fragile, and
-// docs/PERFORMANCE.md has the figures: each loop and each permutation has one caller, so that all of it is
-// compiled into `blocks`; no held bytes are looked at in a loop; sealing and opening differ by a mask,
-// which is data.
-ghost use Rattle.std.specs.Prelude.{◌≡◌, ◌+◌, ◌*◌, ◌/◌, ◌<◌, ◌≤◌, Bool, true, ◌++◌, length, take, drop, if◌then◌else◌, nat_lt};
+// docs/PERFORMANCE.md has the figures: the loop, once for each kind of state, is compiled into `blocks`
+// with all that it calls; no held bytes are looked at in it; sealing and opening differ by a mask, which
+// is data.
+ghost use Rattle.std.specs.Prelude.{◌≡◌, ◌+◌, ◌*◌, ◌/◌, ◌<◌, ◌≤◌, true, false, ◌++◌, length, take, drop, if◌then◌else◌};
 ghost use Rattle.std.proofs.Math.Seq.{paste};
-ghost use Rattle.sparkle.specs.Words.{Words};
-ghost use Rattle.sparkle.specs.Sparkle.{run, xors};
-ghost use Rattle.sparkle.specs.Lanes.{joined};
 ghost use Rattle.schwaemm.specs.Bytes.{to_bytes};
 ghost use Rattle.schwaemm.specs.Blocks.{after, given};
 ghost use Rattle.schwaemm.specs.Schwaemm.{schwaemm128_128, schwaemm256_128, schwaemm192_192, schwaemm256_256, crypt, padded, domain, mix_last, initialise, absorb_block, message_block, opening, tag_of};
 ghost use Rattle.tc_aead_cipher.specs.Variant.{params_of};
-ghost use Rattle.tc_sparkle_aead.specs.Message.{in_array, state_in, put_state, plain_by, mask_of, xor_last, xor_block, wide_params, block_step, blocks_out, start_words, held_blocks};
+ghost use Rattle.tc_sparkle_aead.specs.Message.{Fits, Held, sized, in_array, state_in, put_state, plain_by, xor_last, block_step, blocks_out, start_words, held_blocks};
 
 use super::bytes;
+use super::duplex::{Duplex, Mask, Sponge};
 use sparkle::sse2::Groups;
-use sparkle::{scalar, sse2};
-use tc_aead_cipher::checks;
 use tc_aead_cipher::variant::SparkleVariant;
 
-// ---- a block
+// ---- blocks
 
-// What the first eight words of a state and a block become.
-fn crypt_words(state: [u32; 8], block: [u32; 8]) -> [u32; 8]
-    ensures { result ≡ xors state block }
-{
-    [
-        state[0] ^ block[0],
-        state[1] ^ block[1],
-        state[2] ^ block[2],
-        state[3] ^ block[3],
-        state[4] ^ block[4],
-        state[5] ^ block[5],
-        state[6] ^ block[6],
-        state[7] ^ block[7],
-    ]
+// What runs of blocks differ in: what is xored into the state's last word before the first block, what the
+// state takes up of a block, and whether big steps come behind each.
+#[derive(Clone, Copy)]
+pub(crate) struct Mode {
+    last: u32,
+    mask: Mask,
+    big: bool,
+}
+
+impl Mode {
+    // Blocks that are not the last: slim steps come behind each.
+    pub(crate) fn leading(opening: bool) -> Mode
+        ensures { result ≡ record { last = 0; mask = opening; big = false } }
+    {
+        Mode {
+            last: 0,
+            mask: Mask::new(opening),
+            big: false,
+        }
+    }
+
+    // The start's block, and a last one, with its domain constant: big steps come behind it.
+    fn single(domain: u32) -> Mode
+        ensures { result ≡ record { last = domain; mask = false; big = true } }
+    {
+        Mode {
+            last: domain,
+            mask: Mask::new(false),
+            big: true,
+        }
+    }
 }
 
 // The first n words are written to the output from `pos` on, where `write` says so.
+#[tactic(auto, using(crate::proofs::ByteLaws::words_over))]
 fn store(output: &mut [u8], pos: usize, words: [u32; 8], n: usize, write: bool)
     requires { (n ≤ 8) × (write ≡ true → pos + n * 4 ≤ length output.old) }
     ensures { output.new ≡ (if write then paste output.old pos (to_bytes words) (n * 4) else output.old) }
 {
     if write {
-        bytes::put_words(output, pos, &words, n);
+        bytes::put_words(&mut output[pos..], &words[..n]);
     }
 }
 
-// ---- 8 words: 4 of the rate, 4 of the capacity
-
-// The state in an array, with `last` in its last word.
-fn state8(words: [u32; 16], last: u32) -> [u32; 8]
-    ensures { result ≡ xor_last schwaemm128_128 last (state_in schwaemm128_128 words) }
-{
-    [
-        words[0],
-        words[1],
-        words[2],
-        words[3],
-        words[4],
-        words[5],
-        words[6],
-        words[7] ^ last,
-    ]
-}
-
-// The array with another state.
-fn put_state8(words: [u32; 16], state: [u32; 8]) -> [u32; 16]
-    ensures { result ≡ put_state schwaemm128_128 words state }
-{
-    [
-        state[0], state[1], state[2], state[3], state[4], state[5], state[6], state[7], words[8],
-        words[9], words[10], words[11], words[12], words[13], words[14], words[15],
-    ]
-}
-
-// A block is taken up.
-fn mix8(s: [u32; 8], block: [u32; 8], mask: u32, steps: u32) -> [u32; 8]
-    ensures { result ≡ run 4 0 steps (xor_block schwaemm128_128 mask s block) }
-{
-    let mixed = [
-        s[2] ^ (block[0] ^ (s[0] & mask)) ^ s[4],
-        s[3] ^ (block[1] ^ (s[1] & mask)) ^ s[5],
-        (s[2] ^ s[0]) ^ (block[2] ^ (s[2] & mask)) ^ s[6],
-        (s[3] ^ s[1]) ^ (block[3] ^ (s[3] & mask)) ^ s[7],
-        s[4],
-        s[5],
-        s[6],
-        s[7],
-    ];
-    scalar::run8(mixed, 0, steps)
-}
-
-fn blocks8(
-    words: [u32; 16],
-    last: u32,
-    mask: u32,
-    big: bool,
+// `blocks`, for a kind of state. A flag stands beside the output: where a loop holds a lent slice in an
+// `Option`, no proof was found of what the slice becomes. By index: the output needs the block's
+// place, since its chunks are no help (`put_words` of bytes.rt), and chunks of the input would only stand beside
+// the index.
+#[inline(always)]
+fn blocks_of<S: Duplex>(
+    words: &mut [u32; 16],
+    mode: Mode,
     input: &[u8],
     output: &mut [u8],
     write: bool,
     count: usize,
-) -> [u32; 16]
-    requires { (mask ≡ mask_of (nat_lt 0 mask)) × (count * 16 ≤ length input.now) × (write ≡ true → count * 16 ≤ length output.old) }
-    ensures value { result ≡ put_state schwaemm128_128 words (after 16 (block_step schwaemm128_128 big (nat_lt 0 mask)) count (xor_last schwaemm128_128 last (state_in schwaemm128_128 words)) input.now) }
-    ensures output_after { output.new ≡ blocks_out schwaemm128_128 big (nat_lt 0 mask) write count (xor_last schwaemm128_128 last (state_in schwaemm128_128 words)) input.now output.old }
-{
-    let steps = if big { 10 } else { 7 };
-    let mut v = state8(words, last);
-    let mut pos = 0;
-    let mut left = count;
-    while 0 < left {
-        let block = bytes::words_in(input, pos, 4);
-        store(output, pos, crypt_words(v, block), 4, write);
-        let next = mix8(v, block, mask, steps);
-        v = next;
-        pos += 16;
-        left -= 1;
-    }
-    put_state8(words, v)
-}
-
-// ---- 12 words: 8 of the rate and 4 of the capacity where it is wide, else 6 and 6
-
-fn state12(words: [u32; 16], last: u32) -> [u32; 12]
-    ensures { (wide : Bool) → result ≡ xor_last (wide_params wide) last (state_in (wide_params wide) words) }
-{
-    [
-        words[0],
-        words[1],
-        words[2],
-        words[3],
-        words[4],
-        words[5],
-        words[6],
-        words[7],
-        words[8],
-        words[9],
-        words[10],
-        words[11] ^ last,
-    ]
-}
-
-fn put_state12(words: [u32; 16], state: [u32; 12]) -> [u32; 16]
-    ensures { (wide : Bool) → result ≡ put_state (wide_params wide) words state }
-{
-    [
-        state[0], state[1], state[2], state[3], state[4], state[5], state[6], state[7], state[8],
-        state[9], state[10], state[11], words[12], words[13], words[14], words[15],
-    ]
-}
-
-// The words of a block.
-fn load12(wide: bool, input: &[u8], pos: usize) -> [u32; 8]
-    requires { pos + (wide_params wide).rate ≤ length input.now }
-    ensures { take (wide_params wide).rate (to_bytes result) ≡ take (wide_params wide).rate (drop pos input.now) }
-{
-    if wide {
-        bytes::words_in(input, pos, 8)
-    } else {
-        bytes::words_in(input, pos, 6)
-    }
-}
-
-// What a block becomes is written.
-fn store12(
-    wide: bool,
-    output: &mut [u8],
-    pos: usize,
-    state: [u32; 12],
-    block: [u32; 8],
-    write: bool,
 )
-    requires { write ≡ true → pos + (wide_params wide).rate ≤ length output.old }
-    ensures { output.new ≡ (if write then paste output.old pos (to_bytes (xors state block)) (wide_params wide).rate else output.old) }
+    requires { Fits S.params × (count * S.params.rate ≤ length input.now) × (write ≡ true → count * S.params.rate ≤ length output.old) }
+    ensures words_after { words.new ≡ put_state S.params words.old (after S.params.rate (block_step S.params mode.big mode.mask) count (xor_last S.params mode.last (state_in S.params words.old)) input.now) }
+    ensures output_after { output.new ≡ blocks_out S.params mode.big mode.mask write count (xor_last S.params mode.last (state_in S.params words.old)) input.now output.old }
 {
-    let first = [
-        state[0], state[1], state[2], state[3], state[4], state[5], state[6], state[7],
-    ];
-    let words = crypt_words(first, block);
-    if wide {
-        store(output, pos, words, 8, write);
-    } else {
-        store(output, pos, words, 6, write);
+    let n = S::block_words();
+    let steps = S::steps(mode.big);
+    let mut state = S::load(words, mode.last);
+    for i in 0..count {
+        let pos = i * (n * 4);
+        let block = bytes::words_in(&input[pos..pos + n * 4]);
+        store(output, pos, state.crypt(block), n, write);
+        state = state.take_up(block, mode.mask, steps);
     }
+    state.store(words);
 }
 
-// The words that are permuted when a block is taken up: variant 2, variant 3, and either of them.
-fn xor_block84(s: [u32; 12], block: [u32; 8], mask: u32) -> [u32; 12]
-    ensures { result ≡ xor_block schwaemm256_128 mask s block }
-{
-    [
-        s[4] ^ (block[0] ^ (s[0] & mask)) ^ s[8],
-        s[5] ^ (block[1] ^ (s[1] & mask)) ^ s[9],
-        s[6] ^ (block[2] ^ (s[2] & mask)) ^ s[10],
-        s[7] ^ (block[3] ^ (s[3] & mask)) ^ s[11],
-        (s[4] ^ s[0]) ^ (block[4] ^ (s[4] & mask)) ^ s[8],
-        (s[5] ^ s[1]) ^ (block[5] ^ (s[5] & mask)) ^ s[9],
-        (s[6] ^ s[2]) ^ (block[6] ^ (s[6] & mask)) ^ s[10],
-        (s[7] ^ s[3]) ^ (block[7] ^ (s[7] & mask)) ^ s[11],
-        s[8],
-        s[9],
-        s[10],
-        s[11],
-    ]
-}
-
-fn xor_block66(s: [u32; 12], block: [u32; 8], mask: u32) -> [u32; 12]
-    ensures { result ≡ xor_block schwaemm192_192 mask s block }
-{
-    [
-        s[3] ^ (block[0] ^ (s[0] & mask)) ^ s[6],
-        s[4] ^ (block[1] ^ (s[1] & mask)) ^ s[7],
-        s[5] ^ (block[2] ^ (s[2] & mask)) ^ s[8],
-        (s[3] ^ s[0]) ^ (block[3] ^ (s[3] & mask)) ^ s[9],
-        (s[4] ^ s[1]) ^ (block[4] ^ (s[4] & mask)) ^ s[10],
-        (s[5] ^ s[2]) ^ (block[5] ^ (s[5] & mask)) ^ s[11],
-        s[6],
-        s[7],
-        s[8],
-        s[9],
-        s[10],
-        s[11],
-    ]
-}
-
-fn xor_block12(wide: bool, s: [u32; 12], block: [u32; 8], mask: u32) -> [u32; 12]
-    ensures { result ≡ xor_block (wide_params wide) mask s block }
-{
-    if wide {
-        xor_block84(s, block, mask)
-    } else {
-        xor_block66(s, block, mask)
-    }
-}
-
-fn blocks12(
-    wide: bool,
-    words: [u32; 16],
-    last: u32,
-    mask: u32,
-    big: bool,
-    input: &[u8],
-    output: &mut [u8],
-    write: bool,
-    count: usize,
-) -> [u32; 16]
-    requires { (mask ≡ mask_of (nat_lt 0 mask)) × (count * (wide_params wide).rate ≤ length input.now) × (write ≡ true → count * (wide_params wide).rate ≤ length output.old) }
-    ensures value { result ≡ put_state (wide_params wide) words (after (wide_params wide).rate (block_step (wide_params wide) big (nat_lt 0 mask)) count (xor_last (wide_params wide) last (state_in (wide_params wide) words)) input.now) }
-    ensures output_after { output.new ≡ blocks_out (wide_params wide) big (nat_lt 0 mask) write count (xor_last (wide_params wide) last (state_in (wide_params wide) words)) input.now output.old }
-{
-    let rate = if wide { 32 } else { 24 };
-    let steps = if big { 11 } else { 7 };
-    let mut v = state12(words, last);
-    let mut pos = 0;
-    let mut left = count;
-    while 0 < left {
-        let block = load12(wide, input, pos);
-        store12(wide, output, pos, v, block, write);
-        let next = scalar::run12(xor_block12(wide, v, block, mask), 0, steps);
-        v = next;
-        pos += rate;
-        left -= 1;
-    }
-    put_state12(words, v)
-}
-
-// ---- 16 words in four groups: 8 of the rate, 8 of the capacity
-
-fn state16(words: [u32; 16], last: u32) -> Groups
-    ensures { joined result ≡ xor_last schwaemm256_256 last (state_in schwaemm256_256 words) }
-{
-    let mut v = words;
-    v[15] = words[15] ^ last;
-    sse2::split(v)
-}
-
-// The first eight words of the state.
-fn first16(g: Groups) -> [u32; 8]
-    ensures { result ≡ take 8 (joined g) }
-{
-    let a = g.s0246;
-    let b = g.s1357;
-    [a[0], b[0], a[1], b[1], a[2], b[2], a[3], b[3]]
-}
-
-// A block is taken up. Of the mask a lane of the rate's right half has the complement: the feedback xors
-// the right half in once, and opening twice.
-fn mix_groups(g: Groups, block: [u32; 8], mask: u32, steps: u32) -> Groups
-    ensures { mask ≡ mask_of (nat_lt 0 mask) → Words (joined g) → joined result ≡ run 8 0 steps (xor_block schwaemm256_256 mask (joined g) block) }
-{
-    let a = g.s0246;
-    let b = g.s1357;
-    let c = g.s8ace;
-    let d = g.s9bdf;
-    let other = mask ^ 0xffff_ffff;
-    let lanes = [mask, mask, other, other];
-    let even = [block[0], block[2], block[4], block[6]];
-    let odd = [block[1], block[3], block[5], block[7]];
-    let mixed = Groups {
-        s0246: sse2::xor4(
-            sse2::xor4(
-                sse2::shuffle4(a, 0x4e),
-                sse2::xor4(even, sse2::and4(a, lanes)),
-            ),
-            c,
-        ),
-        s1357: sse2::xor4(
-            sse2::xor4(
-                sse2::shuffle4(b, 0x4e),
-                sse2::xor4(odd, sse2::and4(b, lanes)),
-            ),
-            d,
-        ),
-        s8ace: c,
-        s9bdf: d,
-    };
-    sse2::run_groups(mixed, steps)
-}
-
-fn blocks16(
-    words: [u32; 16],
-    last: u32,
-    mask: u32,
-    big: bool,
-    input: &[u8],
-    output: &mut [u8],
-    write: bool,
-    count: usize,
-) -> [u32; 16]
-    requires { (mask ≡ mask_of (nat_lt 0 mask)) × (count * 32 ≤ length input.now) × (write ≡ true → count * 32 ≤ length output.old) }
-    ensures value { result ≡ put_state schwaemm256_256 words (after 32 (block_step schwaemm256_256 big (nat_lt 0 mask)) count (xor_last schwaemm256_256 last (state_in schwaemm256_256 words)) input.now) }
-    ensures output_after { output.new ≡ blocks_out schwaemm256_256 big (nat_lt 0 mask) write count (xor_last schwaemm256_256 last (state_in schwaemm256_256 words)) input.now output.old }
-{
-    let steps = if big { 12 } else { 8 };
-    let mut g = state16(words, last);
-    let mut pos = 0;
-    let mut left = count;
-    while 0 < left {
-        let block = bytes::words_in(input, pos, 8);
-        store(output, pos, crypt_words(first16(g), block), 8, write);
-        let next = mix_groups(g, block, mask, steps);
-        g = next;
-        pos += 32;
-        left -= 1;
-    }
-    sse2::join(g)
-}
-
-// ---- blocks
-
-// The state, with `last` in its last word, takes up `count` blocks of the input; the steps behind each
-// are slim or big. Where `write` says so, what the blocks become goes to the output from its start. A mask of
-// 0 seals and absorbs; all ones open: the state takes up what a block becomes.
+// The state takes up `count` blocks of the input. Where `write` says so, what the blocks become goes to the
+// output from its start; the flag stands beside the output as in `blocks_of`. The match turns a variant, which
+// is known at a call, into const arguments, which are known before.
 pub(crate) fn blocks(
     variant: SparkleVariant,
     words: &mut [u32; 16],
-    last: u32,
-    mask: u32,
-    big: bool,
+    mode: Mode,
     input: &[u8],
     output: &mut [u8],
     write: bool,
     count: usize,
 )
-    requires { (mask ≡ mask_of (nat_lt 0 mask)) × (count * (params_of variant).rate ≤ length input.now) × (write ≡ true → count * (params_of variant).rate ≤ length output.old) }
-    ensures words_after { words.new ≡ put_state (params_of variant) words.old (after (params_of variant).rate (block_step (params_of variant) big (nat_lt 0 mask)) count (xor_last (params_of variant) last (state_in (params_of variant) words.old)) input.now) }
-    ensures output_after { output.new ≡ blocks_out (params_of variant) big (nat_lt 0 mask) write count (xor_last (params_of variant) last (state_in (params_of variant) words.old)) input.now output.old }
+    requires { (count * (params_of variant).rate ≤ length input.now) × (write ≡ true → count * (params_of variant).rate ≤ length output.old) }
+    ensures words_after { words.new ≡ put_state (params_of variant) words.old (after (params_of variant).rate (block_step (params_of variant) mode.big mode.mask) count (xor_last (params_of variant) mode.last (state_in (params_of variant) words.old)) input.now) }
+    ensures output_after { output.new ≡ blocks_out (params_of variant) mode.big mode.mask write count (xor_last (params_of variant) mode.last (state_in (params_of variant) words.old)) input.now output.old }
 {
-    let wide = variant.nonce_bytes() == 32;
     match variant {
         SparkleVariant::Schwaemm128_128 => {
-            let r = blocks8(*words, last, mask, big, input, output, write, count);
-            *words = r;
+            blocks_of::<Sponge<8, 4, 7, 10>>(words, mode, input, output, write, count)
+        }
+        SparkleVariant::Schwaemm256_128 => {
+            blocks_of::<Sponge<12, 8, 7, 11>>(words, mode, input, output, write, count)
+        }
+        SparkleVariant::Schwaemm192_192 => {
+            blocks_of::<Sponge<12, 6, 7, 11>>(words, mode, input, output, write, count)
         }
         SparkleVariant::Schwaemm256_256 => {
-            let r = blocks16(*words, last, mask, big, input, output, write, count);
-            *words = r;
-        }
-        _ => {
-            let r = blocks12(wide, *words, last, mask, big, input, output, write, count);
-            *words = r;
+            blocks_of::<Groups>(words, mode, input, output, write, count)
         }
     }
 }
+
+// Held bytes and input come as two slices with their bounds beside them: the bounds are the variant's, and
+// a struct of both would carry the variant a second time.
 
 // Of `count` blocks, how many have held bytes in them.
+#[tactic(auto, using(crate::proofs::StreamLaws::held_value, crate::proofs::StreamLaws::held_first))]
 fn held_blocks(variant: SparkleVariant, held: usize, count: usize) -> usize
-    requires { held ≤ 64 }
-    ensures { result ≡ held_blocks (params_of variant) held count }
+    requires { held ≤ (params_of variant).rate + (params_of variant).key }
+    ensures value { result ≡ held_blocks (params_of variant) held count }
+    ensures held { Held (params_of variant) held count result }
 {
-    let rate = variant.nonce_bytes();
-    checks::min(count, (held + rate - 1) / rate)
+    count.min(held.div_ceil(variant.nonce_bytes()))
 }
 
-// The state after `count` header blocks, of the held bytes and the input together.
-pub(crate) fn absorb_blocks(
+// The state after `count` blocks of the held bytes and the input together, which are sealed, absorbed or
+// opened. Where `write` says so, what they become goes to the output from its start; the flag stands beside the
+// output as in `blocks_of`. The mode is made for each run: made once, before the
+// `if` of `behind`, it left what is passed behind that unproved.
+#[inline(always)]
+fn stream(
     variant: SparkleVariant,
+    opening: bool,
     words: [u32; 16],
-    buffer: [u8; 64],
-    held: usize,
+    held: &[u8],
     input: &[u8],
+    output: &mut [u8],
+    write: bool,
     count: usize,
 ) -> [u32; 16]
-    requires { (held ≤ (params_of variant).rate + (params_of variant).key) × (count * (params_of variant).rate ≤ held + length input.now) }
-    ensures { result ≡ put_state (params_of variant) words (after (params_of variant).rate (absorb_block (params_of variant)) count (state_in (params_of variant) words) (take held buffer ++ input.now)) }
+    requires { (length held.now ≤ (params_of variant).rate + (params_of variant).key) × (count * (params_of variant).rate ≤ length held.now + length input.now) × (write ≡ true → count * (params_of variant).rate ≤ length output.old) }
+    ensures value { result ≡ put_state (params_of variant) words (after (params_of variant).rate (block_step (params_of variant) false opening) count (state_in (params_of variant) words) (held.now ++ input.now)) }
+    ensures output_after { output.new ≡ blocks_out (params_of variant) false opening write count (state_in (params_of variant) words) (held.now ++ input.now) output.old }
 {
     let mut v = words;
-    let mut none = [0u8; 1];
-    if held == 0 {
-        blocks(variant, &mut v, 0, 0, false, input, &mut none, false, count);
+    if held.is_empty() {
+        blocks(
+            variant,
+            &mut v,
+            Mode::leading(opening),
+            input,
+            output,
+            write,
+            count,
+        );
         return v;
     }
-    let first = held_blocks(variant, held, count);
+    let first = held_blocks(variant, held.len(), count);
     let n = first * variant.nonce_bytes();
-    let part = bytes::gather(buffer, held, input, 0, n);
-    blocks(variant, &mut v, 0, 0, false, &part, &mut none, false, first);
-    if first == count {
-        return v;
-    }
-    let at = n - held;
+    let part = bytes::gather(held, input, 0, n);
     blocks(
         variant,
         &mut v,
-        0,
-        0,
-        false,
+        Mode::leading(opening),
+        &part,
+        output,
+        write,
+        first,
+    );
+    if first == count {
+        return v;
+    }
+    let at = n - held.len();
+    let behind = if write { n } else { 0 };
+    blocks(
+        variant,
+        &mut v,
+        Mode::leading(opening),
         &input[at..],
-        &mut none,
-        false,
+        &mut output[behind..],
+        write,
         count - first,
     );
     v
 }
 
-// All ones for an opening, else 0.
-pub(crate) fn mask(opening: bool) -> u32
-    ensures { result ≡ mask_of opening }
+// The state after `count` header blocks.
+#[tactic(auto, unfolding(schwaemm::specs::Schwaemm::absorb_block, schwaemm::specs::Schwaemm::sealing, crate::specs::Message::block_step, crate::specs::Message::plain_by))]
+pub(crate) fn absorb_blocks(
+    variant: SparkleVariant,
+    words: [u32; 16],
+    held: &[u8],
+    input: &[u8],
+    count: usize,
+) -> [u32; 16]
+    requires { (length held.now ≤ (params_of variant).rate + (params_of variant).key) × (count * (params_of variant).rate ≤ length held.now + length input.now) }
+    ensures { result ≡ put_state (params_of variant) words (after (params_of variant).rate (absorb_block (params_of variant)) count (state_in (params_of variant) words) (held.now ++ input.now)) }
 {
-    if opening { 0xffff_ffff } else { 0 }
+    stream(variant, false, words, held, input, &mut [], false, count)
 }
 
 // The state after `count` message blocks; what they become is written to the output from its start.
+#[tactic(auto, unfolding(schwaemm::specs::Schwaemm::message_block, crate::specs::Message::block_step, crate::specs::Message::blocks_out))]
 pub(crate) fn crypt_blocks(
     variant: SparkleVariant,
     opening: bool,
     words: [u32; 16],
-    buffer: [u8; 64],
-    held: usize,
+    held: &[u8],
     input: &[u8],
     output: &mut [u8],
     count: usize,
 ) -> [u32; 16]
-    requires { (held ≤ (params_of variant).rate + (params_of variant).key) × (count * (params_of variant).rate ≤ held + length input.now) × (count * (params_of variant).rate ≤ length output.old) }
-    ensures value { result ≡ put_state (params_of variant) words (after (params_of variant).rate (message_block (params_of variant) (plain_by (params_of variant) opening)) count (state_in (params_of variant) words) (take held buffer ++ input.now)) }
-    ensures output_after { output.new ≡ given (params_of variant).rate (message_block (params_of variant) (plain_by (params_of variant) opening)) (crypt (params_of variant)) count (state_in (params_of variant) words) (take held buffer ++ input.now) ++ drop (count * (params_of variant).rate) output.old }
+    requires { (length held.now ≤ (params_of variant).rate + (params_of variant).key) × (count * (params_of variant).rate ≤ length held.now + length input.now) × (count * (params_of variant).rate ≤ length output.old) }
+    ensures value { result ≡ put_state (params_of variant) words (after (params_of variant).rate (message_block (params_of variant) (plain_by (params_of variant) opening)) count (state_in (params_of variant) words) (held.now ++ input.now)) }
+    ensures output_after { output.new ≡ given (params_of variant).rate (message_block (params_of variant) (plain_by (params_of variant) opening)) (crypt (params_of variant)) count (state_in (params_of variant) words) (held.now ++ input.now) ++ drop (count * (params_of variant).rate) output.old }
 {
-    let mut v = words;
-    let m = mask(opening);
-    if held == 0 {
-        blocks(variant, &mut v, 0, m, false, input, output, true, count);
-        return v;
-    }
-    let first = held_blocks(variant, held, count);
-    let n = first * variant.nonce_bytes();
-    let part = bytes::gather(buffer, held, input, 0, n);
-    blocks(variant, &mut v, 0, m, false, &part, output, true, first);
-    if first == count {
-        return v;
-    }
-    let at = n - held;
-    blocks(
-        variant,
-        &mut v,
-        0,
-        m,
-        false,
-        &input[at..],
-        &mut output[n..],
-        true,
-        count - first,
-    );
-    v
+    stream(variant, opening, words, held, input, output, true, count)
 }
 
 // ---- the last block, the start and the tag
 
-// What n bytes of a block become, sealed or opened.
-pub(crate) fn crypt(
-    variant: SparkleVariant,
-    words: [u32; 16],
-    block: [u8; 64],
-    n: usize,
-) -> [u8; 64]
-    requires { n ≤ (params_of variant).rate }
-    ensures { result ≡ in_array 64 (crypt (params_of variant) (state_in (params_of variant) words) (take n block)) }
+// A last block comes as a slice, and each contract here bounds it by the rate: the bound is the variant's, and
+// a slice of its own type would carry the variant a second time. The variant stands beside the words as it
+// does beside a point: it is the engine's. The key comes as the engine keeps it, in fixed memory.
+
+// What the bytes of a block become, sealed or opened.
+pub(crate) fn crypt(variant: SparkleVariant, words: [u32; 16], block: &[u8]) -> [u8; 64]
+    requires { length block.now ≤ (params_of variant).rate }
+    ensures { result ≡ in_array 64 (crypt (params_of variant) (state_in (params_of variant) words) block.now) }
 {
-    let state = bytes::bytes_of(words);
-    let mut r = [0u8; 64];
-    let mut i = 0;
-    while i < n {
-        r[i] = state[i] ^ block[i];
-        i += 1;
-    }
-    r
+    bytes::xored(&bytes::bytes_of(words), block)
 }
 
-// The first n bytes of a buffer as a block: a short one gets byte 80 (hexadecimal) and zeros.
-fn pad(variant: SparkleVariant, buffer: [u8; 64], n: usize) -> [u8; 64]
-    requires { n ≤ (params_of variant).rate }
-    ensures { result ≡ in_array 64 (padded (params_of variant) (take n buffer)) }
+// The last bytes as a block: a short one gets byte 80 (hexadecimal) and zeros.
+fn pad(variant: SparkleVariant, last: &[u8]) -> [u8; 64]
+    requires { length last.now ≤ (params_of variant).rate }
+    ensures { result ≡ in_array 64 (padded (params_of variant) last.now) }
 {
-    let mut r = bytes::part(&buffer, 0, n);
-    if n < variant.nonce_bytes() {
-        r[n] = 0x80;
+    let mut r = bytes::in_array(last);
+    if last.len() < variant.nonce_bytes() {
+        r[last.len()] = 0x80;
     }
     r
 }
 
 // The domain constant: (v xor 2^(key bytes / 8)) × 2^24.
+#[tactic(auto, using(crate::proofs::LastBlock::domain_power), unfolding(schwaemm::specs::Schwaemm::domain))]
 pub(crate) fn domain_constant(variant: SparkleVariant, v: u32) -> u32
     requires { v < 4 }
     ensures { result ≡ domain (params_of variant) v }
 {
-    let power = match variant {
-        SparkleVariant::Schwaemm128_128 => 4,
-        SparkleVariant::Schwaemm256_128 => 4,
-        SparkleVariant::Schwaemm192_192 => 8,
-        SparkleVariant::Schwaemm256_256 => 16,
-    };
-    (v ^ power) * 0x100_0000
+    (v ^ (1 << (variant.key_bytes() / 8))) * 0x100_0000
 }
 
-// The last block, n bytes of the buffer, is taken up; `short` is 0 for the header, 2 for the message.
+// The last block is taken up; `short` is the paper's number of the domain of a short block: 0 for the header, 2 for
+// the message. A full one has the next number.
 pub(crate) fn mix_last(
     variant: SparkleVariant,
     words: [u32; 16],
-    buffer: [u8; 64],
-    n: usize,
+    last: &[u8],
     short: u32,
 ) -> [u32; 16]
-    requires { (n ≤ (params_of variant).rate) × (short < 3) }
-    ensures { result ≡ put_state (params_of variant) words (mix_last (params_of variant) short (state_in (params_of variant) words) (take n buffer)) }
+    requires { (length last.now ≤ (params_of variant).rate) × (short < 3) }
+    ensures { result ≡ put_state (params_of variant) words (mix_last (params_of variant) short (state_in (params_of variant) words) last.now) }
 {
-    let block = pad(variant, buffer, n);
-    let v = if n < variant.nonce_bytes() {
+    let block = pad(variant, last);
+    let v = if last.len() < variant.nonce_bytes() {
         short
     } else {
         short + 1
     };
+    let mode = Mode::single(domain_constant(variant, v));
     let mut r = words;
-    let mut none = [0u8; 1];
-    blocks(
-        variant,
-        &mut r,
-        domain_constant(variant, v),
-        0,
-        true,
-        &block,
-        &mut none,
-        false,
-        1,
-    );
+    blocks(variant, &mut r, mode, &block, &mut [], false, 1);
     r
 }
 
-// The state that makes nonce and key of the nonce, once it takes it up: feedback and whitening cancel. Of
-// each variant, and of any.
-fn start_128_128(key: [u32; 8]) -> [u32; 16]
-    ensures { result ≡ in_array 16 (start_words schwaemm128_128 (take 4 key)) }
+// The state that makes nonce and key of the nonce, once it takes it up: feedback and whitening cancel.
+// RATE and KEY are how many words rate and key have.
+fn start_of<const RATE: usize, const KEY: usize>(key: [u32; 8]) -> [u32; 16]
+    requires { Fits (sized (RATE + KEY) RATE 0 0) × (KEY ≤ 8) }
+    ensures { result ≡ in_array 16 (start_words (sized (RATE + KEY) RATE 0 0) (take KEY key)) }
 {
-    [
-        key[0] ^ key[2],
-        key[1] ^ key[3],
-        key[0],
-        key[1],
-        key[0],
-        key[1],
-        key[2],
-        key[3],
-        0,
-        0,
-        0,
-        0,
-        0,
-        0,
-        0,
-        0,
-    ]
+    let half = RATE / 2;
+    let mut words = [0; 16];
+    words[half..RATE].copy_from_slice(&key[..half]);
+    words[RATE..RATE + KEY].copy_from_slice(&key[..KEY]);
+    for i in 0..half {
+        words[i] = key[i] ^ key[(half + i) % KEY];
+    }
+    words
 }
 
-fn start_256_128(key: [u32; 8]) -> [u32; 16]
-    ensures { result ≡ in_array 16 (start_words schwaemm256_128 (take 4 key)) }
-{
-    [
-        key[0] ^ key[0],
-        key[1] ^ key[1],
-        key[2] ^ key[2],
-        key[3] ^ key[3],
-        key[0],
-        key[1],
-        key[2],
-        key[3],
-        key[0],
-        key[1],
-        key[2],
-        key[3],
-        0,
-        0,
-        0,
-        0,
-    ]
-}
-
-fn start_192_192(key: [u32; 8]) -> [u32; 16]
-    ensures { result ≡ in_array 16 (start_words schwaemm192_192 (take 6 key)) }
-{
-    [
-        key[0] ^ key[3],
-        key[1] ^ key[4],
-        key[2] ^ key[5],
-        key[0],
-        key[1],
-        key[2],
-        key[0],
-        key[1],
-        key[2],
-        key[3],
-        key[4],
-        key[5],
-        0,
-        0,
-        0,
-        0,
-    ]
-}
-
-fn start_256_256(key: [u32; 8]) -> [u32; 16]
-    ensures { result ≡ in_array 16 (start_words schwaemm256_256 (take 8 key)) }
-{
-    [
-        key[0] ^ key[4],
-        key[1] ^ key[5],
-        key[2] ^ key[6],
-        key[3] ^ key[7],
-        key[0],
-        key[1],
-        key[2],
-        key[3],
-        key[0],
-        key[1],
-        key[2],
-        key[3],
-        key[4],
-        key[5],
-        key[6],
-        key[7],
-    ]
-}
-
+// `start_of` for a variant: a match, as in `blocks`.
+#[tactic(auto, unfolding(crate::specs::Message::start_words, schwaemm::specs::Schwaemm::whitening))]
 fn start_words(variant: SparkleVariant, key: [u32; 8]) -> [u32; 16]
     ensures { result ≡ in_array 16 (start_words (params_of variant) (take ((params_of variant).key / 4) key)) }
 {
     match variant {
-        SparkleVariant::Schwaemm128_128 => start_128_128(key),
-        SparkleVariant::Schwaemm256_128 => start_256_128(key),
-        SparkleVariant::Schwaemm192_192 => start_192_192(key),
-        SparkleVariant::Schwaemm256_256 => start_256_256(key),
+        SparkleVariant::Schwaemm128_128 => start_of::<4, 4>(key),
+        SparkleVariant::Schwaemm256_128 => start_of::<8, 4>(key),
+        SparkleVariant::Schwaemm192_192 => start_of::<6, 6>(key),
+        SparkleVariant::Schwaemm256_256 => start_of::<8, 8>(key),
     }
 }
 
@@ -679,10 +325,9 @@ pub(crate) fn initialise(variant: SparkleVariant, key: &[u8], nonce: &[u8]) -> [
     requires { (length key.now ≡ (params_of variant).key) × (length nonce.now ≡ (params_of variant).rate) }
     ensures { result ≡ in_array 16 (initialise (params_of variant) key.now nonce.now) }
 {
-    let k = bytes::in_array(key);
-    let mut v = start_words(variant, bytes::words_in(&k, 0, 8));
-    let mut none = [0u8; 1];
-    blocks(variant, &mut v, 0, 0, true, nonce, &mut none, false, 1);
+    let key: [u8; 32] = bytes::in_array(key);
+    let mut v = start_words(variant, bytes::words_in(&key));
+    blocks(variant, &mut v, Mode::single(0), nonce, &mut [], false, 1);
     v
 }
 
@@ -693,11 +338,5 @@ pub(crate) fn make_tag(variant: SparkleVariant, words: [u32; 16], key: [u8; 32])
     let rate = variant.nonce_bytes();
     let n = variant.key_bytes();
     let state = bytes::bytes_of(words);
-    let mut r = [0u8; 32];
-    let mut i = 0;
-    while i < n {
-        r[i] = state[rate + i] ^ key[i];
-        i += 1;
-    }
-    r
+    bytes::xored(&state[rate..], &key[..n])
 }

@@ -1,135 +1,88 @@
 // Bytes and words. Bytes are taken from the held ones and the input together, as one stream, so that
 // nothing is moved on the way.
-ghost use Rattle.std.specs.Prelude.{◌≡◌, ◌+◌, ◌*◌, ◌/◌, ◌%◌, ◌<◌, ◌≤◌, ◌++◌, length, take, drop, slice_index};
-ghost use Rattle.std.proofs.Math.Seq.{paste};
-ghost use Rattle.schwaemm.specs.Bytes.{to_words, to_bytes, same};
-ghost use Rattle.tc_sparkle_aead.specs.Message.{in_array};
+ghost use Rattle.std.specs.Prelude.{◌≡◌, ◌+◌, ◌*◌, ◌%◌, ◌≤◌, ◌++◌, length, take, drop};
+ghost use Rattle.sparkle.specs.Sparkle.{xors};
+ghost use Rattle.schwaemm.specs.Bytes.{to_bytes, same};
+ghost use Rattle.tc_sparkle_aead.specs.Message.{in_array, written};
 
-// A byte of the held ones followed by the input.
-fn byte_at(buffer: &[u8], held: usize, input: &[u8], at: usize) -> u8
-    requires { (held ≤ length buffer.now) × (at < held + length input.now) }
-    ensures { result ≡ slice_index (take held buffer.now ++ input.now) at }
+// A slice of at most N bytes, with zeros behind it.
+#[tactic(auto, using(crate::proofs::Fill::over_zeros))]
+pub(crate) fn in_array<const N: usize>(bytes: &[u8]) -> [u8; N]
+    requires { length bytes.now ≤ N }
+    ensures { result ≡ in_array N bytes.now }
 {
-    if at < held {
-        buffer[at]
-    } else {
-        input[at - held]
-    }
+    let mut r = [0u8; N];
+    r[..bytes.len()].copy_from_slice(bytes);
+    r
 }
 
-// n bytes of a slice from `at` on, with zeros behind them.
-pub(crate) fn part(bytes: &[u8], at: usize, n: usize) -> [u8; 64]
-    requires { (n ≤ 64) × (at + n ≤ length bytes.now) }
-    ensures { result ≡ in_array 64 (take n (drop at bytes.now)) }
+// The bytes of `b`, xored with those of `a` from its start, and zeros behind them. By index: with the slices
+// zipped, no proof was found that all of `b` is gone through.
+#[tactic(auto, using(crate::proofs::XorLaws::xored_turn, crate::proofs::XorLaws::xored_end), unfolding(crate::proofs::Fill::laid, crate::specs::Message::zeros))]
+pub(crate) fn xored<const N: usize>(a: &[u8], b: &[u8]) -> [u8; N]
+    requires { (length b.now ≤ length a.now) × (length b.now ≤ N) }
+    ensures { result ≡ in_array N (xors a.now b.now) }
 {
-    let mut r = [0u8; 64];
-    let mut i = 0;
-    while i < n {
-        r[i] = bytes[at + i];
-        i += 1;
+    let mut r = [0u8; N];
+    for (i, y) in b.iter().enumerate() {
+        r[i] = a[i] ^ y;
     }
     r
 }
 
 // n bytes of the held ones followed by the input, from `pos` on.
-pub(crate) fn gather(buffer: [u8; 64], held: usize, input: &[u8], pos: usize, n: usize) -> [u8; 64]
-    requires { (held ≤ 64) × (n ≤ 64) × (pos + n ≤ held + length input.now) }
-    ensures { result ≡ in_array 64 (take n (drop pos (take held buffer ++ input.now))) }
+#[tactic(auto, using(crate::proofs::ByteLaws::put_behind, crate::proofs::ByteLaws::stream_behind, crate::proofs::ByteLaws::stream_seam))]
+pub(crate) fn gather(held: &[u8], input: &[u8], pos: usize, n: usize) -> [u8; 64]
+    requires { (n ≤ 64) × (pos + n ≤ length held.now + length input.now) }
+    ensures { result ≡ in_array 64 (take n (drop pos (held.now ++ input.now))) }
 {
-    if held <= pos {
-        return part(input, pos - held, n);
+    if held.len() <= pos {
+        let start = pos - held.len();
+        return in_array(&input[start..start + n]);
     }
-    let mut r = [0u8; 64];
-    let mut i = 0;
-    while i < n {
-        r[i] = byte_at(&buffer, held, input, pos + i);
-        i += 1;
-    }
+    let front = n.min(held.len() - pos);
+    let mut r = in_array(&held[pos..pos + front]);
+    r[front..n].copy_from_slice(&input[..n - front]);
     r
 }
 
-// A slice of at most 32 bytes, with zeros behind it.
-pub(crate) fn in_array(bytes: &[u8]) -> [u8; 32]
-    requires { length bytes.now ≤ 32 }
-    ensures { result ≡ in_array 32 bytes.now }
+// Words written to the start of the output, the low byte first. By index: of the chunks that
+// `chunks_exact_mut` lends, the library's contract says nothing afterwards but their length.
+#[tactic(auto, using(crate::proofs::ByteLaws::word_behind), unfolding(schwaemm::specs::Bytes::to_bytes, crate::specs::Message::written))]
+pub(crate) fn put_words(output: &mut [u8], words: &[u32])
+    requires { length words.now * 4 ≤ length output.old }
+    ensures { output.new ≡ written (to_bytes words.now) output.old }
 {
-    let mut r = [0u8; 32];
-    let mut i = 0;
-    while i < bytes.len() {
-        r[i] = bytes[i];
-        i += 1;
-    }
-    r
-}
-
-// n bytes of a slice written to the output from `pos` on.
-pub(crate) fn put(output: &mut [u8], pos: usize, bytes: &[u8], n: usize)
-    requires { (n ≤ length bytes.now) × (pos + n ≤ length output.old) }
-    ensures { output.new ≡ paste output.old pos bytes.now n }
-{
-    let mut i = 0;
-    while i < n {
-        output[pos + i] = bytes[i];
-        i += 1;
+    for (k, word) in words.iter().enumerate() {
+        let at = k * 4;
+        output[at..at + 4].copy_from_slice(&word.to_le_bytes());
     }
 }
 
-// n words written to the output from `pos` on, the low byte first.
-pub(crate) fn put_words(output: &mut [u8], pos: usize, words: &[u32], n: usize)
-    requires { (n ≤ length words.now) × (pos + n * 4 ≤ length output.old) }
-    ensures { output.new ≡ paste output.old pos (to_bytes words.now) (n * 4) }
-{
-    let mut k = 0;
-    while k < n {
-        let w = words[k];
-        let i = pos + k * 4;
-        output[i] = (w % 0x100) as u8;
-        output[i + 1] = (w / 0x100 % 0x100) as u8;
-        output[i + 2] = (w / 0x1_0000 % 0x100) as u8;
-        output[i + 3] = (w / 0x100_0000 % 0x100) as u8;
-        k += 1;
-    }
-}
-
-// Whether the first n bytes of two slices are the same; all of them are looked at.
-pub(crate) fn same_bytes(a: &[u8], b: &[u8], n: usize) -> bool
-    requires { (n ≤ length a.now) × (n ≤ length b.now) }
-    ensures { result ≡ same (take n a.now) (take n b.now) }
+// Whether two slices of one length are the same; all bytes are looked at, whatever they hold.
+#[tactic(auto, using(crate::proofs::SameLaws::same_turn), unfolding(schwaemm::specs::Bytes::same))]
+pub(crate) fn same_bytes(a: &[u8], b: &[u8]) -> bool
+    requires { length a.now ≡ length b.now }
+    ensures { result ≡ same a.now b.now }
 {
     let mut equal = true;
-    let mut i = 0;
-    while i < n {
-        if a[i] != b[i] {
-            equal = false;
-        }
-        i += 1;
+    for (x, y) in a.iter().zip(b) {
+        equal &= x == y;
     }
     equal
 }
 
-// Word k of a slice of bytes from `at` on, little-endian.
-fn word_in(bytes: &[u8], at: usize, k: usize) -> u32
-    requires { at + (k * 4 + 3) < length bytes.now }
-    ensures { result ≡ slice_index (to_words (drop at bytes.now)) k }
-{
-    let i = at + k * 4;
-    let a = bytes[i] as u32;
-    let b = bytes[i + 1] as u32;
-    let c = bytes[i + 2] as u32;
-    let d = bytes[i + 3] as u32;
-    a + b * 0x100 + c * 0x1_0000 + d * 0x100_0000
-}
-
-// n words of a slice of bytes from `at` on, with zeros behind them.
-pub(crate) fn words_in(bytes: &[u8], at: usize, n: usize) -> [u32; 8]
-    requires { (n ≤ 8) × (at + n * 4 ≤ length bytes.now) }
-    ensures { take (n * 4) (to_bytes result) ≡ take (n * 4) (drop at bytes.now) }
+// The words of a slice of bytes, little-endian, with zeros behind them. By index: over `chunks_exact` no proof
+// was found of what the array becomes.
+#[tactic(auto, unfolding(crate::proofs::Fill::laid, crate::specs::Message::zeros))]
+pub(crate) fn words_in(bytes: &[u8]) -> [u32; 8]
+    requires { (length bytes.now ≤ 32) × (length bytes.now % 4 ≡ 0) }
+    ensures { take (length bytes.now) (to_bytes result) ≡ bytes.now }
 {
     let mut r = [0u32; 8];
-    let mut k = 0;
-    while k < n {
-        r[k] = word_in(bytes, at, k);
-        k += 1;
+    for k in 0..bytes.len() / 4 {
+        let at = k * 4;
+        r[k] = u32::from_le_bytes([bytes[at], bytes[at + 1], bytes[at + 2], bytes[at + 3]]);
     }
     r
 }
@@ -139,6 +92,6 @@ pub(crate) fn bytes_of(words: [u32; 16]) -> [u8; 64]
     ensures { result ≡ to_bytes words }
 {
     let mut r = [0u8; 64];
-    put_words(&mut r, 0, &words, 16);
+    put_words(&mut r, &words);
     r
 }

@@ -1,18 +1,24 @@
 // The engine (the Rust's engine.rs): its data, by value, and what a start and an end make of it. Fields are
-// private: only this crate's calls make and change an engine. The work on a message is `message.rt`'s.
+// private: only this crate's calls make and change an engine. The work on a message is `message.rt`'s. The calls
+// take the engine by value and give it back (docs/01-scope.md, "Bending the Rust"); `new`, `variant` and the sizes
+// are functions as they are, and would say no more as methods.
 ghost use Rattle.std.specs.Prelude.{◌≡◌, ◌≤◌, length};
 ghost use Rattle.tc_aead_cipher.specs.Variant.{params_of};
-ghost use Rattle.tc_sparkle_aead.specs.Engine.{new_engine, no_pair, no_steps, repeats, remember};
+ghost use Rattle.tc_aead_cipher.specs.Outcome.{outcome, start_outcome, answered as answered_by};
+ghost use Rattle.tc_sparkle_aead.specs.Engine.{new_engine, no_pair, no_steps, init_steps, repeats, remember};
 ghost use Rattle.tc_sparkle_aead.specs.Calls.{add_steps, at_point, refused, started, answered, finish};
 
-use super::message::{End, Mac, Point};
-use super::{bytes, message};
-use tc_aead_cipher::aead_error::{AeadError, AeadResult};
-use tc_aead_cipher::aead_init_error::AeadInitResult;
-use tc_aead_cipher::phase::Direction;
+use super::bytes;
+use super::message::{End, Mac, Point, Start};
+use tc_aead_cipher::aead_error::AeadError;
+use tc_aead_cipher::aead_init_error::AeadInitError;
+use tc_aead_cipher::phase::{Direction, Phase};
+use tc_aead_cipher::refusal;
+use tc_aead_cipher::refusal::Refusal;
 use tc_aead_cipher::variant::SparkleVariant;
 
-// The last loaded key and nonce, and whether there are any (the Rust's `has_key_nonce`).
+// The last loaded key and nonce, and whether there are any (the Rust's `has_key_nonce`): docs/01-scope.md, "Bending
+// the Rust", has the flag beside the arrays.
 #[derive(Clone, Copy)]
 pub struct Pair {
     pub(crate) loaded: bool,
@@ -38,34 +44,43 @@ pub struct SparkleEngine {
     pub(crate) steps: Steps,
 }
 
-// What a call of a message answers, and the engine afterwards.
+// What a call answers, and the engine afterwards.
 #[derive(Clone, Copy)]
-pub struct Done {
-    pub answer: AeadResult,
+pub struct Done<A> {
+    pub answer: A,
     pub engine: SparkleEngine,
 }
 
-// What a start answers, and the engine afterwards.
-#[derive(Clone, Copy)]
-pub struct Started {
-    pub answer: AeadInitResult,
-    pub engine: SparkleEngine,
+// A start among the calls of every kind: it counts nothing.
+impl From<Done<Result<(), AeadInitError>>> for Done<Result<usize, Refusal>> {
+    ghost from_gives = { λ s r. (answered_by r.answer ≡ start_outcome s.answer) × (r.engine ≡ s.engine) };
+
+    fn from(s: Done<Result<(), AeadInitError>>) -> Done<Result<usize, Refusal>> {
+        Done {
+            answer: refusal::start_answer(s.answer),
+            engine: s.engine,
+        }
+    }
 }
 
-fn no_steps() -> Steps
-    ensures { result ≡ no_steps }
-{
-    Steps {
-        current: 0,
-        initial: 0,
+// A call on a message among them.
+impl From<Done<Result<usize, AeadError>>> for Done<Result<usize, Refusal>> {
+    ghost from_gives = { λ d r. (answered_by r.answer ≡ outcome d.answer) × (r.engine ≡ d.engine) };
+
+    fn from(d: Done<Result<usize, AeadError>>) -> Done<Result<usize, Refusal>> {
+        Done {
+            answer: refusal::call_answer(d.answer),
+            engine: d.engine,
+        }
     }
 }
 
 // A new engine: no message, no pair, no tag, no steps.
+#[tactic(auto, unfolding(crate::specs::Message::zeros, crate::specs::Message::no_message, crate::specs::Engine::no_pair, crate::specs::Engine::new_engine))]
 pub fn new(variant: SparkleVariant) -> SparkleEngine
     ensures { result ≡ new_engine variant }
 {
-    let none = message::no_message();
+    let none = Point::empty(Phase::Uninitialized, [0; 16]);
     SparkleEngine {
         variant,
         current: none,
@@ -75,8 +90,8 @@ pub fn new(variant: SparkleVariant) -> SparkleEngine
             key: [0; 32],
             nonce: [0; 32],
         },
-        mac: message::no_mac(),
-        steps: no_steps(),
+        mac: Mac::none(),
+        steps: Steps::none(),
     }
 }
 
@@ -89,148 +104,153 @@ pub fn variant(e: SparkleEngine) -> SparkleVariant
 pub fn key_bytes(e: SparkleEngine) -> usize
     ensures { result ≡ (params_of e.variant).key }
 {
-    let v = e.variant;
-    v.key_bytes()
+    variant(e).key_bytes()
 }
 
 pub fn nonce_bytes(e: SparkleEngine) -> usize
     ensures { result ≡ (params_of e.variant).rate }
 {
-    let v = e.variant;
-    v.nonce_bytes()
+    variant(e).nonce_bytes()
 }
 
 pub fn tag_bytes(e: SparkleEngine) -> usize
     ensures { result ≡ (params_of e.variant).key }
 {
-    let v = e.variant;
-    v.tag_bytes()
+    variant(e).tag_bytes()
 }
 
-pub(crate) fn add_steps(s: Steps, n: u64) -> Steps
-    ensures { result ≡ add_steps n s }
-{
-    Steps {
-        current: std::num::wrapping_add_u64(s.current, n),
-        initial: s.initial,
+impl Steps {
+    // No steps.
+    #[tactic(auto, unfolding(crate::specs::Engine::no_steps, crate::specs::Engine::init_steps))]
+    fn none() -> Steps
+        ensures { result ≡ no_steps }
+    {
+        Steps::after_init(0)
+    }
+
+    // The steps after a start that ran n.
+    #[tactic(auto, unfolding(crate::specs::Engine::init_steps))]
+    pub(crate) fn after_init(n: u64) -> Steps
+        ensures { result ≡ init_steps no_steps n }
+    {
+        Steps {
+            current: n,
+            initial: n,
+        }
+    }
+
+    // n more steps.
+    #[tactic(auto, unfolding(crate::specs::Calls::add_steps))]
+    pub(crate) fn add(self, n: u64) -> Steps
+        ensures { result ≡ add_steps n self }
+    {
+        Steps {
+            current: self.current.wrapping_add(n),
+            ..self
+        }
     }
 }
 
-// The engine at another point, after n more steps.
-pub(crate) fn at_point(mut e: SparkleEngine, at: Point, n: u64) -> SparkleEngine
-    ensures { result ≡ at_point e at n }
-{
-    e.current = at;
-    let s = e.steps;
-    e.steps = add_steps(s, n);
-    e
-}
+impl Pair {
+    // Whether a key and a nonce repeat it; both are looked at whole.
+    #[tactic(auto, using(crate::proofs::InitLaws::repeats_key, crate::proofs::InitLaws::repeats_nonce, crate::proofs::InitLaws::repeats_none, crate::proofs::InitLaws::repeats_pair, tc_aead_cipher::proofs::VariantLaws::small))]
+    pub(crate) fn repeats(self, variant: SparkleVariant, key: &[u8], nonce: &[u8]) -> bool
+        ensures { result ≡ repeats (params_of variant) self key.now nonce.now }
+    {
+        let k = variant.key_bytes();
+        let n = variant.nonce_bytes();
+        if key.len() != k || nonce.len() != n || !self.loaded {
+            return false;
+        }
+        bytes::same_bytes(&self.key[..k], key) & bytes::same_bytes(&self.nonce[..n], nonce)
+    }
 
-// Whether a key and a nonce are the last loaded pair; both are looked at whole.
-pub(crate) fn repeats(variant: SparkleVariant, pair: Pair, key: &[u8], nonce: &[u8]) -> bool
-    ensures { result ≡ repeats (params_of variant) pair key.now nonce.now }
-{
-    let k = variant.key_bytes();
-    let n = variant.nonce_bytes();
-    if key.len() != k {
-        return false;
-    }
-    if nonce.len() != n {
-        return false;
-    }
-    if !pair.loaded {
-        return false;
-    }
-    let last_key = pair.key;
-    let last_nonce = pair.nonce;
-    let same_key = bytes::same_bytes(&last_key, key, k);
-    let same_nonce = bytes::same_bytes(&last_nonce, nonce, n);
-    if same_key { same_nonce } else { false }
-}
-
-// What is remembered once a key and a nonce are loaded.
-fn remember(key: &[u8], nonce: &[u8]) -> Pair
-    requires { (length key.now ≤ 32) × (length nonce.now ≤ 32) }
-    ensures { result ≡ remember no_pair key.now nonce.now }
-{
-    Pair {
-        loaded: true,
-        key: bytes::in_array(key),
-        nonce: bytes::in_array(nonce),
+    // What is remembered once a key and a nonce are loaded.
+    #[tactic(auto, unfolding(crate::specs::Engine::remember))]
+    fn remember(key: &[u8], nonce: &[u8]) -> Pair
+        requires { (length key.now ≤ 32) × (length nonce.now ≤ 32) }
+        ensures { result ≡ remember no_pair key.now nonce.now }
+    {
+        Pair {
+            loaded: true,
+            key: bytes::in_array(key),
+            nonce: bytes::in_array(nonce),
+        }
     }
 }
 
-// A refused start ends the message and loads no pair.
-pub(crate) fn refused(mut e: SparkleEngine) -> SparkleEngine
-    ensures { result ≡ refused e }
-{
-    let none = message::no_message();
-    let mac = message::no_mac();
-    let steps = no_steps();
-    e.current = none;
-    e.initial = none;
-    e.mac = mac;
-    e.steps = steps;
-    e
-}
-
-// A start that is taken loads its pair and absorbs its header; of the old engine the variant stays.
-pub(crate) fn start(
-    variant: SparkleVariant,
-    d: Direction,
-    key: &[u8],
-    nonce: &[u8],
-    header: &[u8],
-) -> SparkleEngine
-    requires { (length key.now ≡ (params_of variant).key) × (length nonce.now ≡ (params_of variant).rate) }
-    ensures { result ≡ started (new_engine variant) d key.now nonce.now header.now }
-{
-    let at = message::start_point(variant, d, key, nonce);
-    let point = message::absorb(variant, d, at, header);
-    let pair = remember(key, nonce);
-    let mac = message::no_mac();
-    let count = std::num::wrapping_add_u64(
-        variant.big_steps() as u64,
-        message::header_steps(variant, at, header),
-    );
-    let steps = Steps {
-        current: count,
-        initial: count,
-    };
-    SparkleEngine {
-        variant,
-        current: point,
-        initial: point,
-        pair,
-        mac,
-        steps,
+impl SparkleEngine {
+    // The engine at another point, after n more steps.
+    #[tactic(auto, unfolding(crate::specs::Calls::at_point))]
+    pub(crate) fn at_point(self, at: Point, n: u64) -> SparkleEngine
+        ensures { result ≡ at_point self at n }
+    {
+        SparkleEngine {
+            current: at,
+            steps: self.steps.add(n),
+            ..self
+        }
     }
-}
 
-// The message has ended, after `first` steps and those of its end. Where no tag can be read, the received
-// one was wrong.
-pub(crate) fn finish(
-    mut e: SparkleEngine,
-    answer: AeadResult,
-    d: Direction,
-    first: u64,
-    end: End,
-) -> Done
-    ensures { result ≡ finish (at_point e e.current first) (answered answer end.mac) d end.mac end.steps }
-{
-    let point = message::final_point(d);
-    let mac = end.mac;
-    let s = e.steps;
-    let before_end = add_steps(s, first);
-    let after_end = add_steps(before_end, end.steps);
-    e.current = point;
-    e.mac = mac;
-    e.steps = after_end;
-    if mac.readable {
-        return Done { answer, engine: e };
+    // A refused start ends the message and loads no pair.
+    #[tactic(auto, unfolding(crate::specs::Message::zeros, crate::specs::Message::no_message, crate::specs::Engine::refused_steps, crate::specs::Calls::refused))]
+    pub(crate) fn refused(self) -> SparkleEngine
+        ensures { result ≡ refused self }
+    {
+        let none = Point::empty(Phase::Uninitialized, [0; 16]);
+        SparkleEngine {
+            current: none,
+            initial: none,
+            mac: Mac::none(),
+            steps: Steps::none(),
+            ..self
+        }
     }
-    Done {
-        answer: AeadResult::Err(AeadError::AuthenticationFailed),
-        engine: e,
+
+    // A start that is taken loads its pair and absorbs its header; of the old engine the variant stays.
+    #[tactic(auto, using(crate::proofs::InitLaws::started_is), unfolding(crate::specs::Engine::new_engine))]
+    pub(crate) fn start(start: Start, d: Direction) -> SparkleEngine
+        ensures { result ≡ started (new_engine start.entry.variant) d start.entry.key.now start.entry.nonce.now start.entry.header.now }
+    {
+        let variant = start.variant;
+        let at = Point::start(start, d);
+        let point = at.absorb(variant, d, start.header);
+        let big = u64::from(variant.big_steps());
+        SparkleEngine {
+            variant,
+            current: point,
+            initial: point,
+            pair: Pair::remember(start.key, start.nonce),
+            mac: Mac::none(),
+            steps: Steps::after_init(big.wrapping_add(at.header_steps(variant, start.header))),
+        }
+    }
+
+    // The message has ended, after `first` steps and those of its end. Where no tag can be read, the received
+    // one was wrong.
+    #[tactic(auto, unfolding(crate::specs::Message::zeros, crate::specs::Message::final_point, crate::specs::Calls::at_point, crate::specs::Calls::final_engine, crate::specs::Calls::finish))]
+    pub(crate) fn finish(
+        self,
+        answer: Result<usize, AeadError>,
+        d: Direction,
+        first: u64,
+        end: End,
+    ) -> Done<Result<usize, AeadError>>
+        ensures { result ≡ finish (at_point self self.current first) (answered answer end.mac) d end.mac end.steps }
+    {
+        let checked = if end.mac.readable {
+            answer
+        } else {
+            Err(AeadError::AuthenticationFailed)
+        };
+        Done {
+            answer: checked,
+            engine: SparkleEngine {
+                current: Point::empty(Phase::Final(d), [0; 16]),
+                mac: end.mac,
+                steps: self.steps.add(first).add(end.steps),
+                ..self
+            },
+        }
     }
 }

@@ -4,6 +4,7 @@
 pub mod aead_cipher;
 mod blocks;
 mod bytes;
+mod duplex;
 pub mod engine;
 pub mod message;
 pub mod verify;

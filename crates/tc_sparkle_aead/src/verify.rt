@@ -3,57 +3,50 @@
 ghost use Rattle.std.specs.Prelude.{◌≡◌, ◌-◌, ◌≤◌, length};
 ghost use Rattle.schwaemm.specs.Schwaemm.{body, decrypt, verified};
 ghost use Rattle.tc_aead_cipher.specs.Variant.{params_of};
+ghost use Rattle.tc_aead_cipher.specs.Outcome.{answered};
 ghost use Rattle.tc_aead_cipher.specs.Reply.{reply_of};
 ghost use Rattle.tc_sparkle_aead.specs.Message.{written};
 ghost use Rattle.tc_sparkle_aead.specs.OpenWhole.{verify, open_whole};
 
-use super::{blocks, bytes, message, whole};
+use super::message::Start;
+use super::{blocks, bytes, whole};
 use tc_aead_cipher::aead_error::AeadError;
+use tc_aead_cipher::checks;
 use tc_aead_cipher::phase::Direction;
-use tc_aead_cipher::reply::Reply;
+use tc_aead_cipher::refusal::Refusal;
 use tc_aead_cipher::variant::SparkleVariant;
-use tc_aead_cipher::{checks, reply};
 
 // Whether a packet's tag is the specification's. The last block is opened to an array of its own.
-fn verified(variant: SparkleVariant, key: &[u8], nonce: &[u8], header: &[u8], sealed: &[u8]) -> bool
-    requires { (length key.now ≡ (params_of variant).key) × (length nonce.now ≡ (params_of variant).rate) × ((params_of variant).key ≤ length sealed.now) }
-    ensures { result ≡ verified (params_of variant) key.now nonce.now header.now sealed.now }
+fn verified(start: Start, sealed: &[u8]) -> bool
+    requires { (params_of start.variant).key ≤ length sealed.now }
+    ensures { result ≡ verified (params_of start.entry.variant) start.entry.key.now start.entry.nonce.now start.entry.header.now sealed.now }
 {
-    let words = whole::prepare(variant, key, nonce, header);
-    let mut none = [0u8; 1];
-    let at = whole::data(variant, Direction::Decrypt, words, sealed, &mut none, false);
-    let k = bytes::in_array(key);
+    let variant = start.variant;
+    let words = whole::prepare(start);
+    let at = whole::data(variant, Direction::Decrypt, words, sealed, &mut [], false);
     let mut last = [0u8; 64];
-    let opened = message::open_end(variant, at, k, &mut last);
-    let mac = opened.mac;
-    mac.readable
+    let opened = at.open_end(variant, bytes::in_array(start.key), &mut last);
+    opened.mac.readable
 }
 
 // The message of a packet is written to the output's start.
-fn decrypt(
-    variant: SparkleVariant,
-    key: &[u8],
-    nonce: &[u8],
-    header: &[u8],
-    sealed: &[u8],
-    output: &mut [u8],
-)
-    requires { (length key.now ≡ (params_of variant).key) × (length nonce.now ≡ (params_of variant).rate) × ((params_of variant).key ≤ length sealed.now) × (length sealed.now - (params_of variant).key ≤ length output.old) }
-    ensures { output.new ≡ written (decrypt (params_of variant) key.now nonce.now header.now (body (params_of variant) sealed.now)) output.old }
+fn decrypt(start: Start, sealed: &[u8], output: &mut [u8])
+    requires { ((params_of start.variant).key ≤ length sealed.now) × (length sealed.now - (params_of start.variant).key ≤ length output.old) }
+    ensures { output.new ≡ written (decrypt (params_of start.entry.variant) start.entry.key.now start.entry.nonce.now start.entry.header.now (body (params_of start.entry.variant) sealed.now)) output.old }
 {
-    let words = whole::prepare(variant, key, nonce, header);
+    let variant = start.variant;
+    let words = whole::prepare(start);
     let at = whole::data(variant, Direction::Decrypt, words, sealed, output, true);
-    let state = at.words;
-    let buffer = at.buffer;
-    let held = at.held;
-    let n = held - variant.tag_bytes();
-    let last = blocks::crypt(variant, state, buffer, n);
-    bytes::put(output, sealed.len() - held, &last, n);
+    let n = at.held - variant.tag_bytes();
+    let last = blocks::crypt(variant, at.words, &at.buffer[..n]);
+    let pos = sealed.len() - at.held;
+    output[pos..pos + n].copy_from_slice(&last[..n]);
 }
 
 // The verifying pass: the checks of a packet for which there would be `room`, and whether it is
-// verified. It writes nothing.
-#[tactic(auto, using(crate::proofs::OpenWholeLaws::reply_verified, crate::proofs::OpenWholeLaws::reply_unverified))]
+// verified. It writes nothing. Key, nonce and header come side by side: nothing is known of their lengths before
+// the check, and `Start` is made behind it.
+#[tactic(auto, unfolding(crate::specs::OpenWhole::verify))]
 pub fn verify(
     variant: SparkleVariant,
     key: &[u8],
@@ -61,20 +54,26 @@ pub fn verify(
     header: &[u8],
     sealed: &[u8],
     room: usize,
-) -> Reply
-    ensures { result ≡ reply_of (verify variant key.now nonce.now header.now sealed.now room) }
+) -> Result<usize, Refusal>
+    ensures { answered result ≡ verify variant key.now nonce.now header.now sealed.now room }
 {
-    let answer = checks::packet_check(variant, key.len(), nonce.len(), sealed.len(), room);
-    if answer.number != 0 {
-        return answer;
+    let n = checks::packet_check(variant, key.len(), nonce.len(), sealed.len(), room)?;
+    let start = Start {
+        variant,
+        key,
+        nonce,
+        header,
+    };
+    if verified(start, sealed) {
+        Ok(n)
+    } else {
+        Err(Refusal::Call(AeadError::AuthenticationFailed))
     }
-    if verified(variant, key, nonce, header, sealed) {
-        return answer;
-    }
-    reply::refusal(AeadError::AuthenticationFailed)
 }
 
-// Opens a packet whole, or leaves the output as it was lent.
+// Opens a packet whole, or leaves the output as it was lent. Key, nonce and header come side by side as to `verify`,
+// which checks them.
+#[tactic(auto, unfolding(crate::specs::OpenWhole::open_whole))]
 pub fn open_whole(
     variant: SparkleVariant,
     key: &[u8],
@@ -82,13 +81,17 @@ pub fn open_whole(
     header: &[u8],
     sealed: &[u8],
     output: &mut [u8],
-) -> Reply
-    ensures value { result ≡ (open_whole variant key.now nonce.now header.now sealed.now output.old).reply }
+) -> Result<usize, Refusal>
+    ensures value { reply_of (answered result) ≡ (open_whole variant key.now nonce.now header.now sealed.now output.old).reply }
     ensures output_after { output.new ≡ (open_whole variant key.now nonce.now header.now sealed.now output.old).out }
 {
-    let answer = verify(variant, key, nonce, header, sealed, output.len());
-    if answer.number == 0 {
-        decrypt(variant, key, nonce, header, sealed, output);
-    }
-    answer
+    let n = verify(variant, key, nonce, header, sealed, output.len())?;
+    let start = Start {
+        variant,
+        key,
+        nonce,
+        header,
+    };
+    decrypt(start, sealed, output);
+    Ok(n)
 }

@@ -5,39 +5,47 @@ ghost use Rattle.schwaemm.specs.Schwaemm.{prepared};
 ghost use Rattle.tc_aead_cipher.specs.declared.phase.Phase.{Phase};
 ghost use Rattle.tc_aead_cipher.specs.Variant.{params_of};
 ghost use Rattle.tc_aead_cipher.specs.Checks.{direction_of, keep};
+ghost use Rattle.tc_aead_cipher.specs.Outcome.{answered};
+ghost use Rattle.tc_aead_cipher.specs.Reply.{reply_of};
 ghost use Rattle.tc_sparkle_aead.specs.Message.{in_array, block_count, data_from, stream_out, written};
 ghost use Rattle.tc_sparkle_aead.specs.Packet.{data_point, point_end, variant_packet};
 
-use super::message::Point;
-use super::{blocks, bytes, message};
-use tc_aead_cipher::aead_error::{AeadError, AeadResult};
-use tc_aead_cipher::aead_init_error::AeadInitResult;
+use super::blocks::Mode;
+use super::message::{Point, Start};
+use super::{blocks, bytes};
+use tc_aead_cipher::aead_error::AeadError;
+use tc_aead_cipher::checks;
+use tc_aead_cipher::checks::Held;
 use tc_aead_cipher::phase::{Direction, Phase};
-use tc_aead_cipher::reply::Reply;
+use tc_aead_cipher::refusal::Refusal;
 use tc_aead_cipher::variant::SparkleVariant;
-use tc_aead_cipher::{checks, reply};
 
 // The state that a message begins with: the start, and the header behind it.
-pub(crate) fn prepare(variant: SparkleVariant, key: &[u8], nonce: &[u8], header: &[u8]) -> [u32; 16]
-    requires { (length key.now ≡ (params_of variant).key) × (length nonce.now ≡ (params_of variant).rate) }
-    ensures { result ≡ in_array 16 (prepared (params_of variant) key.now nonce.now header.now) }
+pub(crate) fn prepare(start: Start) -> [u32; 16]
+    ensures { result ≡ in_array 16 (prepared (params_of start.entry.variant) start.entry.key.now start.entry.nonce.now start.entry.header.now) }
 {
-    let mut w = blocks::initialise(variant, key, nonce);
-    let n = header.len();
-    if n == 0 {
+    let variant = start.variant;
+    let header = start.header;
+    let mut w = blocks::initialise(variant, start.key, start.nonce);
+    if header.is_empty() {
         return w;
     }
-    let count = checks::block_count(variant, 0, n);
+    let count = checks::block_count(variant, 0, header.len());
     let gone = count * variant.nonce_bytes();
-    let mut none = [0u8; 1];
     blocks::blocks(
-        variant, &mut w, 0, 0, false, header, &mut none, false, count,
+        variant,
+        &mut w,
+        Mode::leading(false),
+        header,
+        &mut [],
+        false,
+        count,
     );
-    blocks::mix_last(variant, w, bytes::part(header, gone, n - gone), n - gone, 0)
+    blocks::mix_last(variant, w, &header[gone..], 0)
 }
 
 // The point after the data, which is all of the message or packet. Where `write` is true, what the blocks
-// become is written.
+// become is written; the flag stands beside the output as in `blocks_of` of blocks.rt.
 pub(crate) fn data(
     variant: SparkleVariant,
     d: Direction,
@@ -51,45 +59,48 @@ pub(crate) fn data(
     ensures output_after { output.new ≡ (if write then written (stream_out (params_of variant) (data_point d words) input.now) output.old else output.old) }
 {
     let phase = Phase::Data(d);
+    let held = Held {
+        variant,
+        phase,
+        bytes: 0,
+    };
     let mut w = words;
-    let mask = blocks::mask(checks::opening(phase));
-    let count = checks::block_count(variant, checks::keep(variant, phase), input.len());
-    blocks::blocks(variant, &mut w, 0, mask, false, input, output, write, count);
+    let mode = Mode::leading(checks::opening(phase));
+    let count = checks::block_count(variant, held.keep(), input.len());
+    blocks::blocks(variant, &mut w, mode, input, output, write, count);
     let gone = count * variant.nonce_bytes();
-    let rest = input.len() - gone;
+    let rest = &input[gone..];
     Point {
         phase,
         words: w,
-        buffer: bytes::part(input, gone, rest),
-        held: rest,
+        buffer: bytes::in_array(rest),
+        held: rest.len(),
     }
 }
 
 // The end, behind the n bytes that the data wrote.
-fn end(variant: SparkleVariant, at: Point, key: &[u8], n: usize, output: &mut [u8]) -> Reply
-    requires { (length key.now ≡ (params_of variant).key) × (at.phase ≡ Phase.Data (direction_of at.phase)) × (n ≤ length output.old) }
-    ensures value { result ≡ (point_end n (params_of variant) key.now at output.old).reply }
-    ensures output_after { output.new ≡ (point_end n (params_of variant) key.now at output.old).out }
+#[tactic(auto, unfolding(crate::specs::Packet::point_end))]
+fn end(start: Start, at: Point, n: usize, output: &mut [u8]) -> Result<usize, Refusal>
+    requires { (at.phase ≡ Phase.Data (direction_of at.phase)) × (n ≤ length output.old) }
+    ensures value { reply_of (answered result) ≡ (point_end n (params_of start.entry.variant) start.entry.key.now at output.old).reply }
+    ensures output_after { output.new ≡ (point_end n (params_of start.entry.variant) start.entry.key.now at output.old).out }
 {
-    let phase = at.phase;
-    let answer = checks::end_check(variant, phase, at.held, output.len() - n);
-    let AeadResult::Ok(m) = answer else {
-        return reply::reply_of(answer);
-    };
-    let k = bytes::in_array(key);
-    if checks::opening(phase) {
-        let opened = message::open_end(variant, at, k, &mut output[n..]);
-        let mac = opened.mac;
-        if mac.readable {
-            return reply::count(n + m);
+    let variant = start.variant;
+    let m = at.as_held(variant).end_check(output.len() - n)?;
+    let key = bytes::in_array(start.key);
+    if checks::opening(at.phase) {
+        let opened = at.open_end(variant, key, &mut output[n..]);
+        if opened.mac.readable {
+            return Ok(n + m);
         }
-        return reply::reply_of(AeadResult::Err(AeadError::AuthenticationFailed));
+        return Err(Refusal::Call(AeadError::AuthenticationFailed));
     }
-    message::seal_end(variant, at, k, &mut output[n..]);
-    reply::count(n + m)
+    at.seal_end(variant, key, &mut output[n..]);
+    Ok(n + m)
 }
 
-// Seals a message or opens a packet. No pair repeats: a new engine has none.
+// Seals a message or opens a packet. No pair repeats: a new engine has none. Key, nonce and header come side by
+// side: nothing is known of their lengths before the check, and `Start` is made behind it.
 pub fn packet(
     variant: SparkleVariant,
     d: Direction,
@@ -98,26 +109,25 @@ pub fn packet(
     header: &[u8],
     input: &[u8],
     output: &mut [u8],
-) -> Reply
-    ensures value { result ≡ (variant_packet variant d key.now nonce.now header.now input.now output.old).reply }
+) -> Result<usize, Refusal>
+    ensures value { reply_of (answered result) ≡ (variant_packet variant d key.now nonce.now header.now input.now output.old).reply }
     ensures output_after { output.new ≡ (variant_packet variant d key.now nonce.now header.now input.now output.old).out }
 {
-    let start = checks::start_check(
+    let size = variant.tag_bytes();
+    checks::start_check(variant, d, key.len(), nonce.len(), size, false)?;
+    let start = Start {
         variant,
-        d,
-        key.len(),
-        nonce.len(),
-        variant.tag_bytes(),
-        false,
-    );
-    let AeadInitResult::Ok = start else {
-        return reply::start_reply_of(start);
+        key,
+        nonce,
+        header,
     };
-    let answer = checks::data_check(variant, Phase::Data(d), 0, input.len(), output.len());
-    let AeadResult::Ok(n) = answer else {
-        return reply::reply_of(answer);
+    let held = Held {
+        variant,
+        phase: Phase::Data(d),
+        bytes: 0,
     };
-    let words = prepare(variant, key, nonce, header);
+    let n = held.data_check(input.len(), output.len())?;
+    let words = prepare(start);
     let at = data(variant, d, words, input, output, true);
-    end(variant, at, key, n, output)
+    end(start, at, n, output)
 }

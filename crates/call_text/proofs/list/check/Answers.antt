@@ -1,42 +1,31 @@
 -- What the first line is found to be, and the line at a place of the loop.
-use Rattle.std.proofs.Common.{◌≡◌, ℕ, ◌<◌, List, length, refl, sym, ap, ◌∙◌, add-one, arith}
-use borrow.Author.Tests.{lt-ltb, not-true, not-false}
-use Rattle.call_text.specs.declared.line.Found.{Found}
-use Rattle.call_text.specs.declared.line.FoundVariant.{FoundVariant}
-use Rattle.call_text.specs.Line.{found_in, variant_found}
+use Rattle.std.proofs.Common.{◌<◌, length, refl, sym, ap, ◌∙◌, add-one, arith}
+use borrow.Author.Tests.{lt-ltb}
+use Rattle.call_text.specs.Line.{found_in, read_variant}
 use Rattle.call_text.specs.List.{check_file}
-use Rattle.call_text.specs.Run.{line_at}
-use Rattle.call_text.proofs.ListSteps.{end_within, end_further, first_wrong, first_found, call_wrong, call_right, calls-end}
+use Rattle.call_text.proofs.ListSteps.{end_within, end_further, first_wrong, first_found, call_wrong, call_right, calls-end, is_nothing, is_something}
 use Rattle.call_text.proofs.list.check.Goals as goal
 
-pub returns-then-file-gt65536 : goal.returns-then-file-gt65536
+pub returns-then-file-gt-FILE_BYTES : goal.returns-then-file-gt-FILE_BYTES
 unfolding check_file
-returns-then-file-gt65536 c = rw (lt-ltb 65536 (length c.args.file.now) c.if-file-gt65536.true) refl
+returns-then-file-gt-FILE_BYTES c = rw (lt-ltb 65536 (length c.args.file.now) c.if-file-gt-FILE_BYTES.true) refl
 
-first : (file : List ℕ) {l : List ℕ} {v : FoundVariant} → v ≡ variant_found l → l ≡ line_at file 0
-    → (variant_found (line_at file 0)).found ≡ v.found
-first file e l = sym (ap (λ (v : FoundVariant). v.found) (e ∙ ap variant_found l))
-
-found : (file : List ℕ) (at : ℕ) {l : List ℕ} {f : Found} → f ≡ found_in l → l ≡ line_at file at
-    → (found_in (line_at file at)).found ≡ f.found
-found file at e l = sym (ap (λ (f : Found). f.found) (e ∙ ap found_in l))
-
-pub returns-then-not-v : goal.returns-then-not-v
-returns-then-not-v c =
-    let file = c.args.file.now in
-    sym (first_wrong file (omega arith) (first file c.variant_in-v.ensures c.line_at.ensures ∙ not-true _ c.if-not-v.true))
+pub returns-in_default : goal.returns-in_default
+returns-in_default c =
+    let e = ap read_variant (sym c.line_at.ensures) ∙ sym c.variant_in.ensures ∙ c.in_default.is in
+    sym (first_wrong c.args.file.now (omega arith) e)
 
 pub loop-at-init : goal.loop-at-init
 loop-at-init c =
     let file = c.args.file.now in
-    let e = first_found file (omega arith) (first file c.variant_in-v.ensures c.line_at.ensures ∙ not-false _ c.if-not-v.false) in
+    let e = first_found file c.in-Some.v (omega arith) (ap read_variant (sym c.line_at.ensures) ∙ sym c.variant_in.ensures ∙ c.in-Some.is) in
     (rw c.line_end-at.ensures e, omega (arith, c.line_end-at.ensures, end_within file 0), omega arith)
 
-pub returns-then-not-f : goal.returns-then-not-f
-returns-then-not-f c =
+pub returns-then-is_none : goal.returns-then-is_none
+returns-then-is_none c =
     let l = c.loop-at in
-    let e = found c.args.file.now l.at c.found_in-f.ensures c.line_at-in-loop-at.ensures ∙ not-true _ c.if-not-f.true in
-    sym (l.invariant.0 ∙ call_wrong _ _ _ (omega arith) e)
+    let e = ap found_in (sym c.line_at-in-loop-at.ensures) ∙ sym c.found_in.ensures ∙ is_nothing _ c.if-is_none.ensures in
+    sym (l.invariant.0 ∙ call_wrong _ _ _ _ (omega arith) e)
 
 pub loop-at-smaller : goal.loop-at-smaller
 loop-at-smaller c =
@@ -48,8 +37,9 @@ loop-at-preserved c =
     let at = c.loop-at.at in
     let k = c.loop-at.k in
     let here : at < length file = omega arith in
-    let right = found file at c.found_in-f.ensures c.line_at-in-loop-at.ensures ∙ not-false _ c.if-not-f.false in
-    let e = c.loop-at.invariant.0 ∙ call_right k file at here right in (
+    let f = is_something _ c.if-is_none.ensures in
+    let found = ap found_in (sym c.line_at-in-loop-at.ensures) ∙ sym c.found_in.ensures ∙ f.1 in
+    let e = c.loop-at.invariant.0 ∙ call_right _ k file at here f.0 found in (
       rw (c.line_end-at-in-loop-at.ensures, add-one k) e,
       omega (arith, c.line_end-at-in-loop-at.ensures, end_within file at),
       omega (arith, c.line_end-at-in-loop-at.ensures, end_further file at here),
@@ -58,4 +48,4 @@ loop-at-preserved c =
 pub returns : goal.returns
 returns c =
     let l = c.loop-at in
-    sym (l.invariant.0 ∙ calls-end l.k c.args.file.now l.at (omega arith))
+    sym (l.invariant.0 ∙ calls-end c.in-Some.v l.k c.args.file.now l.at (omega arith))

@@ -2,13 +2,10 @@
 use Rattle.call_text.proofs.RunSteps.{begin_refused, begin_accepted}
 use Rattle.call_text.proofs.run.begin.Goals as goal
 
-pub returns-in-Refused : goal.returns-in-Refused
-returns-in-Refused c =
-    begin_refused c.args.file.now c.check.ensures _ c.in-Refused.is c.line_refusal.ensures c.refusal.ensures c.new.ensures
+pub returns-in-Err : goal.returns-in-Err
+returns-in-Err c =
+    begin_refused c.args.file.now c.check.ensures _ c.in-Err.is c.refusal.ensures c.new.ensures
 
-pub returns-in-Accepted : goal.returns-in-Accepted
-returns-in-Accepted c =
-    begin_accepted c.args.file.now c.check.ensures c.in-Accepted.is c.line_at.ensures c.variant_in-first.ensures
-    c.title.ensures
-    c.new-in-Accepted.ensures
-    c.line_end.ensures
+pub returns-in-Ok : goal.returns-in-Ok
+returns-in-Ok c =
+    begin_accepted c.args.file.now c.check.ensures _ c.in-Ok.is c.title.ensures c.new-in-Ok.ensures c.line_end.ensures

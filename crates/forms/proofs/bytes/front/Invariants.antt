@@ -1,10 +1,6 @@
--- After n turns the first n bytes are of the kind, and those behind them are to be counted.
-use Rattle.std.proofs.Common.{◌≡◌, ◌+◌, ◌-◌, ◌≤◌, length, drop}
-use Rattle.forms.specs.Bytes.{front}
+-- The first n bytes are of the kind.
+use Rattle.std.proofs.Common.{◌≡◌, ℕ, ◌<◌, true, get_or}
 use Rattle.forms.proofs.bytes.front.Given as goal
 
 abbrev pub invariant-loop-n : goal.invariant-loop-n
-invariant-loop-n l = (l.n ≤ length l.s) × (front l.kind l.s ≡ l.n + front l.kind (drop l.n l.s))
-
-abbrev pub decreases-loop-n : goal.decreases-loop-n
-decreases-loop-n l = length l.s - l.n
+invariant-loop-n g l = (k : ℕ) → k < l.n → g.K.Kind.test (get_or l.s k 0) ≡ true

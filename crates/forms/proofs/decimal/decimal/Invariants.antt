@@ -1,10 +1,7 @@
--- After i turns n is what the first i digits say, and the others are read behind it.
-use Rattle.std.proofs.Common.{◌≡◌, ◌-◌, ◌≤◌, length, drop}
+-- n is what the digits so far say, and the others are read behind it.
+use Rattle.std.proofs.Common.{◌≡◌, drop}
 use Rattle.forms.specs.Decimal.{decimal_from, decimal_of}
 use Rattle.forms.proofs.decimal.decimal.Given as goal
 
-abbrev pub invariant-loop-i : goal.invariant-loop-i
-invariant-loop-i l = (l.i ≤ length l.s) × (decimal_of l.s ≡ decimal_from l.n (drop l.i l.s))
-
-abbrev pub decreases-loop-i : goal.decreases-loop-i
-decreases-loop-i l = length l.s - l.i
+abbrev pub invariant-loop-b : goal.invariant-loop-b
+invariant-loop-b l = decimal_of l.s ≡ decimal_from l.n (drop l.b-index l.s)

@@ -1,7 +1,7 @@
 -- `form_within` meets its contract: what an item's end says of the form's.
 use Rattle.std.proofs.Common.{◌≡◌, ℕ, ◌+◌, ◌-◌, Bool, true, false, List, length, take, drop, refl, sym, ap, ◌∙◌, arith}
-use Rattle.forms.specs.declared.form.End.{End}
-use Rattle.forms.specs.Form.{plain_end, is_open, form_end}
+use Rattle.std.proofs.lemmas.Result.{err_from_is_err_and}
+use Rattle.forms.specs.Form.{End, plain_end, is_open, form_end}
 use Rattle.forms.proofs.FormSteps.{from_place, not_opened, opened, ended, item_end, nested_item, plain_item, closed, no_item, item-read, item_stops}
 use Rattle.forms.proofs.form.+form_within.Goals as goal
 use Rattle.forms.proofs.form.+form_within.Goals.{then-is_open, else-is_open}
@@ -25,12 +25,13 @@ pub returns-then-depth-eq0 : goal.returns-then-depth-eq0
 unfolding form_end
 returns-then-depth-eq0 t c = rw c.if-depth-eq0.true refl
 
-pub returns-in-Stopped : goal.returns-in-Stopped
-returns-in-Stopped t c =
-    sym (not_opened c.args.depth _ c.args.s.now c.if-depth-eq0.false (sym c.in-Stopped.ensures))
+pub returns-in_err-at : goal.returns-in_err-at
+returns-in_err-at t c =
+    let p = err_from_is_err_and c.from_residual.result c.from_residual.ensures.1 in
+    rw (p.1, p.2) (sym (not_opened c.args.depth _ c.args.s.now c.if-depth-eq0.false (sym c.open_end.ensures ∙ c.in_err-at.was)))
 
 pub loop-at-init : goal.loop-at-init
-loop-at-init t c = opened c.args.depth _ c.args.s.now c.if-depth-eq0.false (sym c.in-Behind.ensures)
+loop-at-init t c = opened c.args.depth _ c.args.s.now c.if-depth-eq0.false (sym c.in_ok-at.ensures)
 
 pub returns-then-b-eq41 : goal.returns-then-b-eq41
 returns-then-b-eq41 t c = sym (closed _ _ _ _ c.loop-at.invariant c.loop-at-test.true c.if-b-eq41.true)
@@ -48,7 +49,7 @@ overflow_add-at t c =
       | then-is_open w ↦ nested depth s at c.is_open.ensures w.if-is_open.true (w.item-is ∙ w.form_within-item.ensures)
       | else-is_open w ↦ plain depth s at c.is_open.ensures w.if-is_open.false (w.item-is ∙ w.plain_end-item.ensures)
     ] in
-    omega (arith, (item-read _ _ _ _ c.loop-at.invariant c.loop-at-test.true _ c.if-b-ne32.false (sym item ∙ c.in-Behind-item.is)).inside)
+    omega (arith, (item-read _ _ _ _ c.loop-at.invariant c.loop-at-test.true _ c.if-b-ne32.false (sym item ∙ c.in-Ok.is)).inside)
 
 pub loop-at-preserved : goal.loop-at-preserved
 loop-at-preserved t c =
@@ -59,10 +60,10 @@ loop-at-preserved t c =
       | then-is_open w ↦ nested depth s at c.is_open.ensures w.if-is_open.true (w.item-is ∙ w.form_within-item.ensures)
       | else-is_open w ↦ plain depth s at c.is_open.ensures w.if-is_open.false (w.item-is ∙ w.plain_end-item.ensures)
     ] in
-    item-read _ _ _ _ c.loop-at.invariant c.loop-at-test.true _ c.if-b-ne32.false (sym item ∙ c.in-Behind-item.is)
+    item-read _ _ _ _ c.loop-at.invariant c.loop-at-test.true _ c.if-b-ne32.false (sym item ∙ c.in-Ok.is)
 
-pub overflow_add-result-in-Stopped-item : goal.overflow_add-result-in-Stopped-item
-overflow_add-result-in-Stopped-item t c =
+pub overflow_add-result-in-Err : goal.overflow_add-result-in-Err
+overflow_add-result-in-Err t c =
     let depth = c.args.depth - 1 in
     let s = c.args.s.now in
     let at = c.loop-at.at in
@@ -70,10 +71,10 @@ overflow_add-result-in-Stopped-item t c =
       | then-is_open w ↦ nested depth s at c.is_open.ensures w.if-is_open.true (w.item-is ∙ w.form_within-item.ensures)
       | else-is_open w ↦ plain depth s at c.is_open.ensures w.if-is_open.false (w.item-is ∙ w.plain_end-item.ensures)
     ] in
-    omega (arith, (item_stops _ _ _ _ c.loop-at.invariant c.loop-at-test.true _ c.if-b-ne32.false (sym item ∙ c.in-Stopped-item.is)).1)
+    omega (arith, (item_stops _ _ _ _ c.loop-at.invariant c.loop-at-test.true _ c.if-b-ne32.false (sym item ∙ c.in-Err.is)).1)
 
-pub returns-in-Stopped-item : goal.returns-in-Stopped-item
-returns-in-Stopped-item t c =
+pub returns-in-Err : goal.returns-in-Err
+returns-in-Err t c =
     let depth = c.args.depth - 1 in
     let s = c.args.s.now in
     let at = c.loop-at.at in
@@ -81,7 +82,7 @@ returns-in-Stopped-item t c =
       | then-is_open w ↦ nested depth s at c.is_open.ensures w.if-is_open.true (w.item-is ∙ w.form_within-item.ensures)
       | else-is_open w ↦ plain depth s at c.is_open.ensures w.if-is_open.false (w.item-is ∙ w.plain_end-item.ensures)
     ] in
-    sym (item_stops _ _ _ _ c.loop-at.invariant c.loop-at-test.true _ c.if-b-ne32.false (sym item ∙ c.in-Stopped-item.is)).0
+    sym (item_stops _ _ _ _ c.loop-at.invariant c.loop-at-test.true _ c.if-b-ne32.false (sym item ∙ c.in-Err.is)).0
 
-pub returns : goal.returns
-returns t c = sym (ended _ _ _ _ c.loop-at.invariant c.loop-at-test.false)
+pub returns-after-loop-at : goal.returns-after-loop-at
+returns-after-loop-at t c = sym (ended _ _ _ _ c.loop-at.invariant c.loop-at-test.false)

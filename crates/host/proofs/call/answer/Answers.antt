@@ -1,49 +1,26 @@
--- What is lent goes behind the head, then the call, the tag and the head.
+-- What is lent is the third run, and what is shown the output or the tag; in front stands the head.
+use mathlib.Core.Path.{◌∙◌}
 use native.Mathlib.Omega.{arith}
-use Rattle.host.proofs.AnswerLaws.{lent_fits, length_pasted, length_back, answer-is}
+use Rattle.host.proofs.AnswerLaws.{Lent, Tagged, answer_is}
 use Rattle.host.proofs.call.answer.Goals as goal
-
-pub slice_bounds-call-end-4 : goal.slice_bounds-call-end-4
-slice_bounds-call-end-4 c =
-    let put = c.put_lent in
-    omega (
-      arith,
-      lent_fits c.args.h c.args.runs.now c.args.out.now c.requires.0 c.requires.1 _
-          c.kind_at-kind.ensures _ c.lent_len-n.ensures,
-      length_pasted c.args.e c.args.h c.args.runs.now c.args.out.now c.requires.0 c.requires.1 _
-          c.kind_at-kind.ensures _ c.lent_len-n.ensures put.new.out put.ensures,
-    )
-
-pub put_asked-requires : goal.put_asked-requires
-put_asked-requires c =
-    let call = c.call-d in
-    let put = c.put_lent in
-    length_back c.args.e c.args.h c.args.runs.now c.args.out.now c.requires.0 c.requires.1 _
-    c.kind_at-kind.ensures _ c.lent_len-n.ensures put.new.out put.ensures call.result _
-    call.ensures.value call.ensures.output_after
-
-pub put_head-requires : goal.put_head-requires
-put_head-requires c =
-    let call = c.call-d in
-    let put = c.put_lent in
-    omega (
-      arith,
-      length_back c.args.e c.args.h c.args.runs.now c.args.out.now c.requires.0 c.requires.1 _
-          c.kind_at-kind.ensures _ c.lent_len-n.ensures put.new.out put.ensures call.result _
-          call.ensures.value call.ensures.output_after,
-      c.put_asked.auto,
-    )
+use Rattle.host.proofs.call.answer.Goals.{in-Data, in_default, in-Mac, in_default-kind}
 
 pub returns : goal.returns
 returns c =
-    let put = c.put_lent in
-    let tag = c.mac-m in
-    let asked = c.put_asked in
-    let steps = c.steps in
-    let head = c.put_head in
+    let k = c.args.call in
+    let lent : Lent k.kind k.third.now c.match-call.shown =
+    elim c.match-call.branch [
+      | in-Data w ↦ (let e = w.shown-is ∙ w.copy_from_slice.ensures.after in (λ is. e, λ is. e))
+      | in_default w ↦ (λ is. absurd (w.in_default.not-Data is), λ is. absurd (w.in_default.not-Final is))
+    ] in
+    let tagged : Tagged k.kind c.mac-tag.result c.make-called.new.output c.match-call-2.shown =
+    elim c.match-call-2.branch [
+      | in-Mac w ↦ (λ is. w.shown-is ∙ w.copy_from_slice-in-Mac.ensures.after, λ not. absurd (not w.in-Mac.is))
+      | in_default-kind w ↦ (λ is. absurd (w.in_default-kind.not-Mac is), λ not. w.shown-is)
+    ] in
     let w =
-    answer-is c.args.e c.args.h c.args.runs.now c.args.out.now c.requires.0 c.requires.1 _
-    c.kind_at-kind.ensures _ c.lent_len-n.ensures put.new.out put.ensures c.call-d.result _
-    c.call-d.ensures.value c.call-d.ensures.output_after tag.result asked.new.out head.new.out steps.result _
-    tag.ensures asked.ensures steps.ensures c.shown_by-shown.ensures head.ensures in
+    answer_is c.args.e k.number k.first.now k.second.now k.third.now _ k.kind lent c.make-called.result _ _ _ _ _ _
+    c.make-called.ensures.value c.from-reply.ensures c.make-called.ensures.output_after c.mac-tag.ensures c.steps-steps.ensures tagged
+    (omega (arith, c.match-call-2.auto.shown, c.make-called.auto.output, c.match-call.auto.shown, c.split_at_mut-head.ensures.back_len, c.requires))
+    c.put_head.ensures in
     record { value = w.0; out_after = w.1 }

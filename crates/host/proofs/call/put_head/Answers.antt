@@ -1,24 +1,12 @@
--- The head of an answer, number by number.
-use Rattle.host.proofs.AnswerLaws.{head-written}
+-- The head, number by number.
+use mathlib.Core.Path.{◌∙◌}
+use Rattle.host.proofs.AnswerLaws.{head_written}
 use Rattle.host.proofs.call.put_head.Goals as goal
 
 pub returns : goal.returns
 returns c =
-    head-written
-    c.args.out.now
-    c.put.new.out
-    c.put_number.new.out
-    c.put_number-2.new.out
-    c.put_number-3.new.out
-    _
-    c.args.r
-    c.readable.result
-    _
-    c.args.steps
-    c.args.n
-    c.readable.ensures
-    c.put.ensures
-    c.put_number.ensures
-    c.put_number-2.ensures
-    c.put_number-3.ensures
-    c.put_number-4.ensures
+    head_written c.args.head.now c.requires c.args.r c.args.readable c.args.steps c.args.n c.from.ensures
+    (c.copy_from_slice.ensures.after ∙ c.number_bytes.ensures)
+    (c.copy_from_slice-2.ensures.after ∙ c.number_bytes-2.ensures)
+    (c.copy_from_slice-3.ensures.after ∙ c.number_bytes-3.ensures)
+    (c.copy_from_slice-4.ensures.after ∙ c.number_bytes-4.ensures)

@@ -1,13 +1,16 @@
--- The loop keeps `Walking`: each turn is `walk_turn`, each way out one of `walk_end`, `walk_malformed`, `walk_no_room`.
-use Prim.Native.Nat.{◌-◌}
+-- The loop keeps `Walking`.
+use Prim.Native.Nat.{◌≤◌}
 use lib.ListN.{length, drop}
 use Rattle.host.specs.CallList.{run_calls}
 use Rattle.host.proofs.RunLaws.{Walking}
 use Rattle.host.proofs.run.run_calls.Given as goal
 
-abbrev pub invariant-loop-at : goal.invariant-loop-at
-invariant-loop-at l =
-    Walking (run_calls (length l.list) (drop 1 l.list) l.initial.e (length l.initial.answers)) l.list l.initial.answers l.answers l.e l.at l.used
+abbrev pub invariant-loop-rest : goal.invariant-loop-rest
+invariant-loop-rest l =
+    record {
+      within : length l.rest ≤ length l.list;
+      walking : Walking (run_calls (length l.list) (drop 1 l.list) l.initial.engine (length l.initial.answers)) l.rest l.initial.answers l.answers l.engine l.used;
+    }
 
-abbrev pub decreases-loop-at : goal.decreases-loop-at
-decreases-loop-at l = length l.list - l.at
+abbrev pub decreases-loop-rest : goal.decreases-loop-rest
+decreases-loop-rest l = length l.rest

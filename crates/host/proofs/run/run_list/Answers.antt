@@ -1,31 +1,32 @@
 -- The first byte names the variant; the calls follow.
-use mathlib.Core.Path.{sym, ap, ◌∙◌}
-use Prim.Native.Nat.{ℕ, ◌-◌}
+use mathlib.Core.Path.{ap, ◌∙◌}
+use Prim.Native.Nat.{◌-◌}
 use lib.ListN.{length}
 use Rattle.tc_sparkle_aead.specs.Message.{written}
-use Rattle.host.specs.declared.run.Stop.{Stop}
 use Rattle.host.specs.CallList.{Ran}
-use Rattle.host.proofs.RunLaws.{list-refused, list-empty, list-run}
+use Rattle.host.proofs.RunLaws.{list_refused, list_empty, list_run, first_byte}
 use Rattle.host.proofs.run.run_list.Goals as goal
 
-abbrev stopOf : ℕ → Ran → Stop
-stopOf n r = record { code = r.code; place = n - r.left }
+pub returns-in_default : goal.returns-in_default
+returns-in_default c =
+    let w = list_empty c.args.list.now c.args.answers.now c.in_default.ensures.value in
+    record { code = w.0; place = w.1; answers_after = w.2 }
 
-pub returns-then-list-eq0 : goal.returns-then-list-eq0
-returns-then-list-eq0 c =
-    let a = c.args in
-    let w = list-empty a.list.now a.answers.now c.if-list-eq0.true in
-    record { value = w.0; answers_after = w.1 }
+pub returns-in_default-try_from : goal.returns-in_default-try_from
+returns-in_default-try_from c =
+    let v = first_byte c.args.list.now c.in-Some.field-0.now c.in-Some.ensures.value in
+    let w = list_refused c.args.list.now c.args.answers.now (rw (← v) c.in_default-try_from.ensures.0) in
+    record { code = w.0; place = w.1; answers_after = w.2 }
 
-pub returns-then-is_variant : goal.returns-then-is_variant
-returns-then-is_variant c =
-    let a = c.args in
+pub returns : goal.returns
+returns c =
+    let list = c.args.list.now in
+    let out = c.args.answers.now in
+    let v = first_byte c.args.list.now c.in-Some.field-0.now c.in-Some.ensures.value in
     let same =
-    list-run a.list.now (length a.answers.now) c.variant_of.result c.new.result (sym c.is_variant.ensures ∙ c.if-is_variant.true) c.variant_of.ensures c.new.ensures in
-    record { value = c.run_calls.ensures.value ∙ ap (stopOf (length a.list.now)) same; answers_after = c.run_calls.ensures.answers_after ∙ ap (λ (r : Ran). written r.answers a.answers.now) same }
-
-pub returns-else-is_variant : goal.returns-else-is_variant
-returns-else-is_variant c =
-    let a = c.args in
-    let w = list-refused a.list.now a.answers.now (sym c.is_variant.ensures ∙ c.if-is_variant.false) in
-    record { value = w.0; answers_after = w.1 }
+    list_run list (length out) _ c.new.result (rw (← v) c.in-Ok.ensures.0) (rw (← v) c.in-Ok.ensures.1) c.new.ensures in
+    record {
+      code = c.run_calls.ensures.code ∙ ap (λ (r : Ran). r.code) same;
+      place = c.run_calls.ensures.place ∙ ap (λ (r : Ran). length list - r.left) same;
+      answers_after = c.run_calls.ensures.answers_after ∙ ap (λ (r : Ran). written r.answers out) same;
+    }

@@ -1,7 +1,7 @@
--- Two words of four bytes, the lowest byte first.
-use Rattle.host.specs.Bytes.{word_at, number_at}
+-- The library's number of eight bytes.
+use Rattle.std.proofs.Common.{◌∙◌}
+use Rattle.replay.proofs.AnswerLaws.{le_number}
 use Rattle.replay.proofs.record.number.Goals as goal
 
 pub returns : goal.returns
-unfolding number_at word_at
-returns c = cc
+returns c = c.from_le_bytes.ensures ∙ le_number c.args.bytes

@@ -1,24 +1,20 @@
--- `line` meets its contract: its parts behind one another, in an array that they fit.
-use Rattle.std.proofs.Common.{◌<◌, ◌^◌, ◌∙◌, [], rules}
-use Rattle.sheet_text.specs.Text.{line_text}
-use Rattle.sheet_text.proofs.TextArray.{◌⨾◌, cut_fits}
-use Rattle.sheet_text.proofs.TextLines.{line-fits}
+-- Its parts behind one another, in an array that they fit.
+use Rattle.std.proofs.Common.{◌<◌, ◌^◌, rules}
+use Rattle.tc_aead_cipher.specs.Outcome.{answered}
+use Rattle.sheet_text.specs.Text.{Adds, name_text, flag_text, line_text}
+use Rattle.sheet_text.proofs.TextArray.{◌⨾◌, text_is}
+use Rattle.sheet_text.proofs.TextLines.{line_fits}
 use Rattle.sheet_text.proofs.text.line.Goals as goal
 
 pub returns : goal.returns
 unfolding line_text
 returns c =
     let a = c.args in
-    let r = a.reply in
-    let number : r.number < 256 = search rules in
-    let first : r.first < 2 ^ 64 = search rules in
-    let second : r.second < 2 ^ 64 = search rules in
     let steps : a.steps < 2 ^ 64 = search rules in
-    let parts =
-    c.append.ensures ⨾ c.put_name-named.ensures ⨾ c.append-2.ensures ⨾ c.put_outcome-answered.ensures ⨾ c.append-3.ensures
-    ⨾ c.put_number-counted.ensures
-    ⨾ c.append-4.ensures
-    ⨾ c.put_flag-flagged.ensures
-    ⨾ c.append-5.ensures in
-    parts.behind [] c.empty.ensures
-    ∙ cut_fits _ (line-fits r number first second a.kind a.steps a.readable steps)
+    let named : Adds c.push.new.self (name_text a.kind) c.push-2.new.self = rw (← c.name.ensures) c.push-2.ensures in
+    let flagged : Adds c.push-5.new.self (flag_text a.readable) c.push-6.new.self = rw (← c.flag.ensures) c.push-6.ensures in
+    text_is c.new-line.ensures (line_text a.kind (record { outcome = answered a.answer; steps = a.steps; readable = a.readable })) (line_fits (answered a.answer) c.push_outcome.ensures.fits a.kind a.steps a.readable steps)
+    (c.push.ensures ⨾ named ⨾ c.push-3.ensures ⨾ c.push_outcome.ensures.after ⨾ c.push-4.ensures ⨾ c.push_number.ensures
+    ⨾ c.push-5.ensures
+    ⨾ flagged
+    ⨾ c.push-7.ensures)

@@ -1,12 +1,10 @@
--- `run_groups` runs twelve steps a turn and then those that are left. The code's table is the rows of steps 0 to 11,
--- computed.
-use Rattle.std.proofs.Common.{◌≡◌, ◌+◌}
+-- `run_groups` runs twelve steps a turn and then those that are left. The code's table is the rows of steps 0 to 11.
+use Rattle.std.proofs.Common.{◌≡◌, ◌+◌, ◌-◌, ◌%◌, ◌<◌, ◌≤◌}
+use Rattle.sparkle.specs.Sparkle.{run}
 use Rattle.sparkle.specs.Lanes.{joined, rows_from}
-use Rattle.sparkle.proofs.Runs.{Left}
 use Rattle.sparkle.proofs.sse2.run_groups.Given as goal
 
-abbrev pub invariant-loop-left : goal.invariant-loop-left
-invariant-loop-left l = (l.first + l.left ≡ l.count) × (l.rows ≡ rows_from l.first 12) × Left 8 0 l.count (joined l.initial.g) (joined l.g) l.first l.left
-
-abbrev pub decreases-loop-left : goal.decreases-loop-left
-decreases-loop-left l = l.left
+abbrev pub invariant-loop-first : goal.invariant-loop-first
+invariant-loop-first l =
+    (12 ≤ l.first) × (l.first % 12 ≡ 0) × (l.first < l.count + 12) × (l.rows ≡ rows_from (l.first - 12) 12)
+    × (run 8 (l.first - 12) (l.count - (l.first - 12)) (joined l.g) ≡ run 8 0 l.count (joined l.initial.g))

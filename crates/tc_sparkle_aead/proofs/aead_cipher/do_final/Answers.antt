@@ -14,14 +14,16 @@ accepted : (c : goal.After-opening)
     c.in-Ok.field-0 c.opening.result
 accepted c =
     record {
-      passed = sym c.end_check-answer.ensures ∙ c.in-Ok.is;
+      passed = sym (rw c.as_held.ensures at c.end_check-answer.ensures) ∙ c.in-Ok.is;
       begins = c.begin_data-data_point.ensures;
       direction = c.opening.ensures;
     }
 
 pub returns-in_default : goal.returns-in_default
 returns-in_default c =
-    let s = c.args in record { value = final_refused s.e s.output.now _ _ c.end_check-answer.ensures c.in_default.is; output_after = final_refused_out s.e s.output.now _ _ c.end_check-answer.ensures c.in_default.is }
+    let s = c.args in
+    let checked = rw c.as_held.ensures at c.end_check-answer.ensures in
+    record { value = final_refused s.e s.output.now _ _ checked c.in_default.is; output_after = final_refused_out s.e s.output.now _ _ checked c.in_default.is }
 
 pub open_end-end-requires : goal.open_end-end-requires
 open_end-end-requires c = open_fits (accepted (goal.at.open_end-end-requires c).After-opening) c.if-opening.true

@@ -1,44 +1,72 @@
 -- `decrypt` writes what the packet's blocks become, and behind that what the last block becomes.
-use Rattle.std.proofs.Common.{ℕ, ◌+◌, ◌-◌, ◌≤◌, length, refl, ap, arith}
+use Rattle.std.proofs.Common.{◌≡◌, ℕ, ◌+◌, ◌-◌, ◌≤◌, length, refl, ap, arith, sym, length-take, length-take-le, length-drop}
 use Rattle.tc_aead_cipher.specs.Variant.{params_of}
 use Rattle.tc_aead_cipher.proofs.VariantLaws.{small}
+use Rattle.tc_sparkle_aead.proofs.ByteLaws.{part_paste}
 use Rattle.tc_sparkle_aead.proofs.OpenWholeLaws.{whole_blocks_fit, whole-held, whole-written}
 use Rattle.tc_sparkle_aead.proofs.verify.decrypt.Goals as goal
-use Rattle.tc_sparkle_aead.proofs.verify.decrypt.Goals.{After-tag_bytes}
+use Rattle.tc_sparkle_aead.proofs.verify.decrypt.Goals.{After-tag_bytes, After-crypt-last}
 
 pub data-at-requires : goal.data-at-requires
 data-at-requires c = λ e.
     let a = c.args in
     let fits =
-    whole_blocks_fit a.variant a.key.now a.nonce.now a.header.now a.sealed.now c.requires.2 _ c.prepare-words.ensures in
-    omega (arith, fits, c.requires.3)
+    whole_blocks_fit a.start.variant a.start.key.now a.start.nonce.now a.start.header.now a.sealed.now c.requires.0 _ c.prepare-words.ensures in
+    omega (arith, fits, c.requires.1)
 
 -- the bytes that are held behind the packet's blocks
 stays : (c : goal.After-tag_bytes)
-    → let p = params_of c.args.variant in
+    → let p = params_of c.args.start.variant in
     let held = c.data-at.result.held in
     (p.key ≤ held) × (held ≤ p.key + p.rate) × (held ≤ length c.args.sealed.now)
 stays c =
     let a = c.args in
-    whole-held a.variant a.key.now a.nonce.now a.header.now a.sealed.now c.requires.2 _ c.prepare-words.ensures _
+    whole-held a.start.variant a.start.key.now a.start.nonce.now a.start.header.now a.sealed.now c.requires.0 _ c.prepare-words.ensures _
     c.data-at.ensures.value
 
 pub overflow_sub-n : goal.overflow_sub-n
 overflow_sub-n c = omega (arith, c.tag_bytes.ensures, (stays (goal.at.overflow_sub-n c).After-tag_bytes).0)
 
+pub shared_ref_as_front-crypt : goal.shared_ref_as_front-crypt
+shared_ref_as_front-crypt c =
+    omega (arith, c.tag_bytes.ensures, stays (goal.at.shared_ref_as_front-crypt c).After-tag_bytes, small c.args.start.variant)
+
 pub crypt-last-requires : goal.crypt-last-requires
 crypt-last-requires c = omega (arith, c.tag_bytes.ensures, stays (goal.at.crypt-last-requires c).After-tag_bytes)
 
-pub overflow_sub-sealed : goal.overflow_sub-sealed
-overflow_sub-sealed c = (stays (goal.at.overflow_sub-sealed c).After-tag_bytes).2
+pub overflow_sub-pos : goal.overflow_sub-pos
+overflow_sub-pos c = (stays (goal.at.overflow_sub-pos c).After-tag_bytes).2
 
-pub put-requires : goal.put-requires
-put-requires c =
-    omega (arith, c.tag_bytes.ensures, stays (goal.at.put-requires c).After-tag_bytes, small c.args.variant, c.requires.3, c.data-at.auto.output)
+pub slice_bounds-copy_from_slice-end : goal.slice_bounds-copy_from_slice-end
+slice_bounds-copy_from_slice-end c =
+    omega (arith, c.tag_bytes.ensures, stays (goal.at.slice_bounds-copy_from_slice-end c).After-tag_bytes, small c.args.start.variant, c.requires.1, c.data-at.auto.output)
+
+-- the last block fits its array
+last-fits : (c : After-crypt-last)
+    → (c.data-at.result.held ≤ (params_of c.args.start.variant).key + (params_of c.args.start.variant).rate)
+    → c.data-at.result.held - c.tag_bytes.result ≤ length c.crypt-last.result
+last-fits c few =
+    let long : length c.crypt-last.result ≡ 64 = c.crypt-last.type_inv.1.0.1 in
+    omega (arith, long, c.tag_bytes.ensures, few, small c.args.start.variant)
+
+pub slice_bounds-last-end : goal.slice_bounds-last-end
+slice_bounds-last-end c =
+    last-fits (goal.at.slice_bounds-last-end c).After-crypt-last (stays (goal.at.slice_bounds-last-end c).After-tag_bytes).1
+
+pub slice_bounds-copy_from_slice-end-2 : goal.slice_bounds-copy_from_slice-end-2
+slice_bounds-copy_from_slice-end-2 c =
+    let few = (stays (goal.at.slice_bounds-copy_from_slice-end-2 c).After-tag_bytes).1 in
+    sym (length-take-le _ c.crypt-last.result (last-fits (goal.at.slice_bounds-copy_from_slice-end-2 c).After-crypt-last few))
+
+pub copy_from_slice-requires : goal.copy_from_slice-requires
+copy_from_slice-requires c =
+    let few = stays (goal.at.copy_from_slice-requires c).After-tag_bytes in
+    let fits = last-fits (goal.at.copy_from_slice-requires c).After-crypt-last few.1 in
+    simp (length-take, length-drop) (omega (arith, few, fits, c.tag_bytes.ensures, c.requires.1, c.data-at.auto.output))
 
 pub returns : goal.returns
 returns c =
     let a = c.args in
-    whole-written a.variant a.key.now a.nonce.now a.header.now a.sealed.now c.requires.2 _ c.prepare-words.ensures _
+    whole-written a.start.variant a.start.key.now a.start.nonce.now a.start.header.now a.sealed.now c.requires.0 _ c.prepare-words.ensures _
     c.data-at.ensures.value _ _ refl (ap (λ (k : ℕ). c.data-at.result.held - k) c.tag_bytes.ensures) _ _ _ _
-    c.crypt-last.ensures c.data-at.ensures.output_after c.put.ensures
+    c.crypt-last.ensures c.data-at.ensures.output_after (part_paste _ c.crypt-last.result _ _ _ c.copy_from_slice.ensures.after (omega arith))

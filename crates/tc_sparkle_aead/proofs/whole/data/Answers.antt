@@ -1,5 +1,5 @@
 -- `data` is where the message's blocks lead from the words alone, and writes what they become where it is told to.
-use Rattle.std.proofs.Common.{◌≡◌, ℕ, ◌-◌, ◌*◌, ◌≤◌, true, length, ap, ◌∙◌, arith, rules}
+use Rattle.std.proofs.Common.{◌≡◌, ℕ, ◌-◌, ◌*◌, ◌≤◌, true, length, take, drop, length-drop, length-take-le, arith, rules}
 use Rattle.schwaemm.specs.Blocks.{ready}
 use Rattle.schwaemm.specs.Schwaemm.{Params}
 use Rattle.tc_aead_cipher.specs.declared.phase.Direction.{Direction}
@@ -7,9 +7,7 @@ use Rattle.tc_aead_cipher.specs.declared.phase.Phase.TheVariants.{Data}
 use Rattle.tc_aead_cipher.specs.Variant.{params_of}
 use Rattle.tc_aead_cipher.specs.Checks.{keep}
 use Rattle.tc_aead_cipher.proofs.VariantLaws.{sizes, small, keep_bound}
-use Rattle.tc_sparkle_aead.specs.Message.{mask_of}
 use Rattle.tc_sparkle_aead.proofs.CallLaws.{gone_bound, rest_bound}
-use Rattle.tc_sparkle_aead.proofs.StreamLaws.{mask_own}
 use Rattle.tc_sparkle_aead.proofs.WholeLaws.{count_none, data-point, data-written}
 use Rattle.tc_sparkle_aead.proofs.whole.data.Goals as goal
 use Rattle.tc_sparkle_aead.proofs.whole.data.Goals.{Start, After-block_count-count, After-nonce_bytes}
@@ -41,6 +39,13 @@ stays c =
       keep_bound (params_of v) (Data c.args.d),
     ))
 
+-- all that is behind them
+rest : (c : goal.After-nonce_bytes)
+    → length (take (length c.args.input.now - c.block_count-count.result * c.nonce_bytes.result) (drop (c.block_count-count.result * c.nonce_bytes.result) c.args.input.now))
+    ≡ length c.args.input.now - c.block_count-count.result * c.nonce_bytes.result
+rest c =
+    length-take-le _ _ (omega (arith, length-drop (c.block_count-count.result * c.nonce_bytes.result) c.args.input.now))
+
 -- the output holds what they become, where it is written
 room : (c : goal.After-block_count-count)
     → c.args.write ≡ true → c.block_count-count.result * (params_of c.args.variant).rate ≤ length c.args.output.now
@@ -51,7 +56,6 @@ room c e =
 pub blocks-requires : goal.blocks-requires
 blocks-requires c =
     let p = params_of c.args.variant in (
-      mask_own _ _ (c.mask-mask.ensures ∙ ap mask_of c.opening.ensures),
       gone_bound p.rate _ _ _ (counted (params_of c.args.variant) c.args.d _ _ _ c.block_count-count.ensures c.keep.ensures),
       room (goal.at.blocks-requires c).After-block_count-count,
     )
@@ -59,18 +63,23 @@ blocks-requires c =
 pub overflow_mul-gone : goal.overflow_mul-gone
 overflow_mul-gone c = omega (arith, gone (goal.at.overflow_mul-gone c).After-nonce_bytes)
 
-pub overflow_sub-rest : goal.overflow_sub-rest
-overflow_sub-rest c = gone (goal.at.overflow_sub-rest c).After-nonce_bytes
+pub slice_bounds-rest-count : goal.slice_bounds-rest-count
+slice_bounds-rest-count c = gone (goal.at.slice_bounds-rest-count c).After-nonce_bytes
 
-pub part-requires : goal.part-requires
-part-requires c = omega (arith, gone (goal.at.part-requires c).After-nonce_bytes, stays (goal.at.part-requires c).After-nonce_bytes)
+pub slice_bounds-rest-start : goal.slice_bounds-rest-start
+slice_bounds-rest-start c = gone (goal.at.slice_bounds-rest-start c).After-nonce_bytes
+
+pub in_array-requires : goal.in_array-requires
+in_array-requires c =
+    (omega arith, omega (arith, rest (goal.at.in_array-requires c).After-nonce_bytes, stays (goal.at.in_array-requires c).After-nonce_bytes))
 
 pub returns : goal.returns
 returns c =
     let v = c.args.variant in
-    let em = c.mask-mask.ensures ∙ ap mask_of c.opening.ensures in record {
+    let em = c.opening.ensures in
+    let done = rw c.leading-mode.ensures at c.blocks-2.ensures in record {
       value = data-point v c.args.d c.args.words c.args.input.now _ _ em (counted (params_of c.args.variant) c.args.d _ _ _ c.block_count-count.ensures c.keep.ensures) _ c.nonce_bytes.ensures _ _
-          c.blocks-2.ensures.words_after c.part.ensures;
+          done.words_after c.in_array.ensures;
       output_after = data-written v c.args.d c.args.words c.args.input.now _ _ em (counted (params_of c.args.variant) c.args.d _ _ _ c.block_count-count.ensures c.keep.ensures) (words-length (goal.at.returns c).Start) c.args.write _ _
-          c.blocks-2.ensures.output_after;
+          done.output_after;
     }

@@ -1,3 +1,0 @@
--- The proofs of the dispatcher.
-pub mod KindCases
-pub mod KindLaws

@@ -1,5 +1,0 @@
--- The number falls.
-use Rattle.sheet_text.proofs.text.+put_number.Given as goal
-
-abbrev pub decreases-put_number : goal.decreases-put_number
-decreases-put_number l = l.n
