@@ -136,14 +136,6 @@ same-refused e = ap line_in e
 same_variant : {v u : SparkleVariant} → ◌≡◌ {A = Checked} (Ok v) (Ok u) → v ≡ u
 same_variant e = cc
 
--- Where nothing can be found nothing is.
-unfound : {A : Type 0} (o : Option A) → ((a : A) → o ≡ Some a → ⊥) → o ≡ None
-unfound (Some a) f = absurd (f a refl)
-unfound None f = refl
-
-not_found_lem : {A : Type 0} (o : Option A) (a : A) → o ≡ None → o ≡ Some a → ⊥
-not_found_lem o a e f = none-some a (sym e ∙ f)
-
 read-refused : (ls : List (List ℕ)) (c : Checked) (k : ℕ) → read_as ls c ≡ refused k → c ≡ refuse k
 unfolding read_as
 read-refused ls (Ok v) k e = let z : ◌≡◌ {A = ℕ} 0 1 = cc in absurd (omega arith)
@@ -293,7 +285,7 @@ accepted-list v (l ∷ ls) h = go (read_variant l) refl
 -- Lines are refused at the first that is wrong.
 wrong_call : (v : SparkleVariant) (k n : ℕ) (ls : List (List ℕ)) → WrongCall n ls → check_calls v k ls ≡ refuse (k + n)
 wrong_call v k _ _ (WrongCall.here l ls f) =
-    no_call v k l ls (unfound (found_in l) (λ g e. f (found_call l g e))) ∙ ap refuse (omega arith)
+    no_call v k l ls (grind (arith, f, found_call l)) ∙ ap refuse (omega arith)
 wrong_call v k _ _ (WrongCall.later n l ls is w) =
     let g = call-is l is in
     one_call v k l ls g.0 g.1 ∙ wrong_call v (suc k) n ls w ∙ ap refuse (omega arith)
@@ -312,13 +304,13 @@ refused-call v k m (l ∷ ls) h = go (refused-call v (suc k) m ls) (found_in l) 
         (suc r.0, omega arith, WrongCall.later r.0 l ls (found_call l f e) r.2)
     go g None e =
         let r : k ≡ m = same-refused (sym (no_call v k l ls e) ∙ h) in
-        (0, omega arith, WrongCall.here l ls (λ is. let f = call-is l is in not_found_lem (found_in l) f.0 e f.1))
+        (0, omega arith, WrongCall.here l ls (λ is. let f = call-is l is in none-some f.0 (sym e ∙ f.1)))
 
 wrong_line : (m : ℕ) (ls : List (List ℕ)) → WrongLine m ls → check_lines ls ≡ refuse m
 unfolding check_lines
 wrong_line _ _ WrongLine.no_line = refl
 wrong_line _ _ (WrongLine.no_variant l ls f) =
-    no_variant l ls (unfound (read_variant l) (λ v e. f (found_variant l v e)))
+    no_variant l ls (grind (arith, f, found_variant l))
 wrong_line _ _ (WrongLine.no_call n l ls is w) =
     let v = variant_is l is in
     one_variant l ls v.0 v.1 ∙ wrong_call v.0 2 n ls w
@@ -334,7 +326,7 @@ refused-line m (l ∷ ls) h = go (read_variant l) refl
         rw g.1 (WrongLine.no_call g.0 l ls (found_variant l v e) g.2)
     go None e =
         rw (same-refused (sym h ∙ no_variant l ls e))
-        (WrongLine.no_variant l ls (λ is. let v = variant_is l is in not_found_lem (read_variant l) v.0 e v.1))
+        (WrongLine.no_variant l ls (λ is. let v = variant_is l is in none-some v.0 (sym e ∙ v.1)))
 
 pub written-accepted : (file : List ℕ) (v : SparkleVariant) (calls : List Call) → Written v calls file
     → check_file file ≡ Ok v

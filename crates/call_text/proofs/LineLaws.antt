@@ -389,11 +389,6 @@ found_back : (c : Call) (o : Option Found) → found_as (call_text c) (kind_of c
 found_back c None e b = absurd b
 found_back c (Some f) e b = (f, e, b)
 
--- An answer is given where a test holds.
-cond_some_of : {A : Type 0} (t : Bool) (o : Option A) (a : A) → cond t o None ≡ Some a → (t ≡ true) × (o ≡ Some a)
-cond_some_of true o a e = (refl, e)
-cond_some_of false o a e = absurd (none-some a e)
-
 -- The value of which another is made.
 pub made : {A B : Type 0} (g : A → B) (o : Option A) (b : B) → option_map g o ≡ Some b → (a : A) × (o ≡ Some a) × (g a ≡ b)
 made g None b e = absurd (none-some b e)
@@ -407,8 +402,8 @@ read_exactly s c = (to, λ p. ap read_call p.0 ∙ from p.1)
     to : read_call s ≡ Some c → (s ≡ call_text c) × Within c
     to h =
         let m = made (call_found s) (found_in s) c h in
-        let q = cond_some_of (is_form s) (found_among s all_kinds) m.0 m.1 in
-        let o = found_among_lem s all_kinds m.0 q.1 in
+        let q : found_among s all_kinds ≡ Some m.0 = grind (arith, m.1) in
+        let o = found_among_lem s all_kinds m.0 q in
         let r = read_as_lem s o.0 m.0 o.1 in
         (r.0 ∙ ap call_text m.2, subst Within m.2 r.1)
 
@@ -455,8 +450,8 @@ variant_exactly s v = (to, λ e. ap read_variant e ∙ from)
         → cond (is_form s) (known (number_in (item_at s (begin_at f 3)))) None ≡ Some v → s ≡ variant_text v
     of_fields f a e =
         let x = item_at s (begin_at f 3) in
-        let p = cond_some_of (is_form s) (known (number_in x)) v e in
-        let q = cond_some (is_variant (number_in x)) (variant_of (number_in x)) v p.1 in
+        let p : known (number_in x) ≡ Some v = grind (arith, e) in
+        let q = cond_some (is_variant (number_in x)) (variant_of (number_in x)) v p in
         let r = shape-read s variant_shape f refl (omega arith) a in
         let n = sym (number_of_variant (number_in x) q.0) ∙ ap number q.1 in
         r.0 ∙ ap (λ (y : List ℕ). text "(variant " ++ y ++ text ")") ((number-then x true r.1).0 ∙ ap decimal n)

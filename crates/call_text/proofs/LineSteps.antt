@@ -1,35 +1,30 @@
 -- What the proofs of the functions on a line share: a step of each definition.
-use mathlib.Core.Path.{◌≡◌, refl, sym}
-use mathlib.Core.Bool.{true, false, false≢true}
+use mathlib.Core.Path.{◌≡◌, refl, sym, ◌∙◌}
+use mathlib.Core.Bool.{true}
 use mathlib.Core.List.{List, [], ◌∷◌}
+use denote.Ref.{Bor}
 use Prim.Native.Nat.{ℕ, zero, suc, ◌+◌, ◌-◌, ◌≤◌, ◌<◌}
 use native.Mathlib.Numerals.{add-one}
 use native.Mathlib.Omega.{arith}
 use borrow.Author.Tests.{eq-eqb, ne_eqb}
-use lib.Dec.{eqb}
-use lib.ListN.{length, get_or, drop, length-take, length-drop, drop_of_length-le, get_or-eq_default}
+use lib.ListN.{length, get_or, drop, length-take, length-drop}
 use lib.Seq.{drop-cons}
 use Rattle.forms.specs.Bytes.{front, is_item}
 use Rattle.call_text.specs.declared.line.Fields.{Fields}
 use Rattle.call_text.specs.declared.line.Found.{Found}
 use Rattle.tc_aead_cipher.specs.declared.call.CallKind.{CallKind}
-use Rattle.std.specs.Prelude.{Option, Some, None, is_some}
-use Rattle.std.specs.Option.{option_or}
+use Rattle.tc_aead_cipher.specs.declared.call.CallKind.TheVariants.{Aad}
+use Rattle.std.specs.Prelude.{Option, Some, None}
+use Rattle.std.specs.Option.{MatchOption}
+use Rattle.std.specs.Bool.{IsTrue}
+use Rattle.std.specs.Fn.{Mut, Called}
+use Rattle.std.specs.Iterator.Runs.{Run, ItemsMapTo, CallKeepsClosure, AllItemsGive, IsFirstToGive}
 use Rattle.call_text.specs.Line.{is_form, item_at, start, compare, compare_all, fields_of, found_as, found_among, found_in, all_kinds}
 
 -- An item ends where the line does.
 pub item-length : (s : List ℕ) (at : ℕ) → length (item_at s at) ≤ length s - at
 unfolding item_at
 item-length s at = omega (arith, length-take (front is_item (drop at s)) (drop at s), length-drop at s)
-
--- A byte at a place, and none behind the line.
-pub byte_here : (s : List ℕ) (at b : ℕ) → at < length s → eqb (get_or s at 0) b ≡ eqb (get_or s at 256) b
-byte_here [] at b h = absurd (omega arith)
-byte_here (x ∷ s) zero b h = refl
-byte_here (x ∷ s) (suc at) b h = byte_here s at b (omega arith)
-
-pub no_byte : (s : List ℕ) (at b : ℕ) → length s ≤ at → b < 256 → false ≡ eqb (get_or s at 256) b
-no_byte s at b h small = sym (ne_eqb (get_or s at 256) b (λ e. omega (arith, e, get_or-eq_default s 256 h)))
 
 -- What is left of the shape, from a place on: one byte more, or a difference.
 pub compare-more : (s : List ℕ) (f g : Fields) (shape : List ℕ) (i : ℕ) → i < length shape
@@ -56,24 +51,37 @@ pub fields_short : (s : List ℕ) (f : Fields) (shape : List ℕ) → compare_al
 unfolding fields_of
 fields_short s f shape e h = rw (e, ne_eqb f.at (length s) h) refl
 
--- The kinds from a place on: the one there, where the line has its shape, or those behind it.
-pub kinds_from : (s : List ℕ) (i : ℕ) (d : CallKind) (o : Option Found) → i < 9 → o ≡ found_as s (get_or all_kinds i d)
-    → found_among s (drop i all_kinds) ≡ option_or o (found_among s (drop (i + 1) all_kinds))
-unfolding found_among
-kinds_from s i d o h e = rw (add-one i, drop-cons all_kinds i d h, found_among, ← e) refl
-
-pub is_first : {A : Type 0} (o p : Option A) → is_some o ≡ true → option_or o p ≡ o
-is_first (Some a) p e = refl
-is_first None p e = absurd (false≢true e)
-
-pub not_first : {A : Type 0} (o p : Option A) → is_some o ≡ false → option_or o p ≡ p
-not_first (Some a) p e = absurd (false≢true (sym e))
-not_first None p e = refl
-
 pub form_found : (s : List ℕ) → is_form s ≡ true → found_in s ≡ found_among s all_kinds
 unfolding found_in
 form_found s e = rw e refl
 
-pub none_left : (s : List ℕ) (i : ℕ) → 9 ≤ i → found_among s (drop i all_kinds) ≡ None
+-- Kinds whose shapes the line does not have can be left out in front.
+found_past : (s : List ℕ) (kinds : List CallKind) (n : ℕ)
+    → ((k : ℕ) → k < n → None ≡ found_as s (get_or kinds k Aad)) → found_among s (drop n kinds) ≡ found_among s kinds
 unfolding found_among
-none_left s i h = rw (drop_of_length-le all_kinds {i = i} h, found_among) refl
+found_past s kinds zero h = refl
+found_past s [] (suc n) h = refl
+found_past s (kind ∷ kinds) (suc n) h =
+    rw (← h 0 (omega arith)) (found_past s kinds n (λ k l. h (suc k) (omega arith)))
+
+-- What `find_map` finds, by what it says of its run.
+module _ {S F : Type 0} {steps : S → Option (Bor CallKind) → S → Type 0}
+    (g : Mut F (Bor CallKind × Unit {0}) (Option Found)) (f : F) (s : List ℕ)
+    (calls : (x : Bor CallKind) (r : Option Found) (q : F) → Called g f (x, tt) r q → (q ≡ f) × (r ≡ found_as s x.now))
+    (p : Run steps) (m : ItemsMapTo p (λ y. y.now) all_kinds) where
+  keeps : CallKeepsClosure g f
+  keeps a r q c = (calls a.0 r q c).0
+
+  pub found_mapped : (r : Option Found)
+      → MatchOption r (IsTrue p.whole × AllItemsGive p g f None)
+      (λ y. (i : ℕ) × (i < p.len) × (p.len ≡ i + 1) × IsFirstToGive p g f (Some y) None i)
+      → r ≡ found_among s all_kinds
+  unfolding found_among
+  found_mapped None h =
+      found_past s all_kinds 9 (λ k l. grind (arith, calls, m.2 k Aad (omega (arith, m.1 h.0)), h.1 keeps k))
+  found_mapped (Some y) h =
+      let i = h.0 in
+      let c = h.3 keeps in
+      let here : Some y ≡ found_as s (get_or all_kinds i Aad) = grind (arith, calls, m.2 i Aad h.1, c.0) in
+      let past = found_past s all_kinds i (λ k l. grind (arith, calls, m.2 k Aad (omega arith), c.1 k l)) in
+      sym (rw (drop-cons all_kinds i Aad (omega (arith, m.0)), found_among, ← here) refl) ∙ past

@@ -1,16 +1,16 @@
 -- The line at a place of a file, the place behind it, and the check of a file, line by line.
 use mathlib.Core.Path.{◌≡◌, refl, sym, ap, ◌∙◌}
-use mathlib.Core.Bool.{Bool, true, false, false≢true}
+use mathlib.Core.Bool.{true, false, false≢true}
 use mathlib.Core.List.{List, [], ◌∷◌}
-use Prim.Native.Nat.{ℕ, suc, ◌+◌, ◌≤◌, ◌<◌, min}
+use Prim.Native.Nat.{ℕ, suc, ◌+◌, ◌≤◌, ◌<◌}
 use native.Mathlib.Omega.{arith}
-use borrow.Author.Tests.{leb-true, leb-false, le-ltb}
-use lib.Dec.{leb}
+use borrow.Author.Tests.{le-ltb}
 use lib.ListN.{length, take, drop, length-take, length-drop, drop_of_length-le}
-use lib.Seq.{length-take-le, drop-length, drop-drop}
+use lib.Seq.{length-take-le, drop-drop}
 use Rattle.forms.specs.Bytes.{front, is_line}
 use Rattle.forms.proofs.BytesLaws.{front_le}
 use Rattle.std.specs.Prelude.{Option, Some, None, Ok, is_some}
+use Rattle.std.proofs.lemmas.List.{drop_min}
 use Rattle.std.proofs.lemmas.Option.{none-some}
 use Rattle.tc_aead_cipher.specs.declared.variant.SparkleVariant.{SparkleVariant}
 use Rattle.call_text.specs.declared.line.Found.{Found}
@@ -20,18 +20,6 @@ use Rattle.call_text.specs.Run.{line_at, line_end}
 use Rattle.call_text.proofs.LinesLaws.{lines_step}
 
 -- ---- The line at a place, and the place behind it
-
-drop_min : (m : ℕ) (s : List ℕ) → drop (min m (length s)) s ≡ drop m s
-drop_min m s = go (leb m (length s)) refl
-  where
-    go : (t : Bool) → leb m (length s) ≡ t → drop (min m (length s)) s ≡ drop m s
-    go true e =
-        let f : min m (length s) ≡ m = omega (arith, leb-true m (length s) e) in
-        ap (λ (n : ℕ). drop n s) f
-    go false e =
-        let h = leb-false m (length s) e in
-        let f : min m (length s) ≡ length s = omega arith in
-        ap (λ (n : ℕ). drop n s) f ∙ drop-length s ∙ sym (drop_of_length-le s {i = m} (omega arith))
 
 -- Behind the line at a place stands what is behind the first line from there.
 pub line-end : (file : List ℕ) (at : ℕ)
@@ -103,11 +91,7 @@ module _ (v : SparkleVariant) (k : ℕ) (file : List ℕ) (at : ℕ) where
   unfolding check_calls lines_of
   calls-end h = rw (drop_of_length-le file {i = at} h) refl
 
--- Whether there is a value.
-pub is_nothing : {A : Type 0} (o : Option A) → is_some o ≡ false → o ≡ None
-is_nothing None e = refl
-is_nothing (Some a) e = absurd (false≢true (sym e))
-
+-- The value, where there is one.
 pub is_something : {A : Type 0} (o : Option A) → is_some o ≡ true → (a : A) × (o ≡ Some a)
 is_something None e = absurd (false≢true e)
 is_something (Some a) e = (a, refl)

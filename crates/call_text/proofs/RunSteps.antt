@@ -16,6 +16,9 @@ use Rattle.tc_aead_cipher.specs.declared.variant.SparkleVariant.TheVariants.{Sch
 use Rattle.tc_aead_cipher.specs.Refusals.{line_refusal}
 use Rattle.tc_aead_cipher.specs.Call.{Call, kind_of, call_of}
 use Rattle.tc_aead_cipher.specs.Outcome.{answered as answer_of}
+use Rattle.tc_aead_cipher.specs.declared.reply.Reply.{Reply}
+use Rattle.tc_aead_cipher.specs.Reply.{reply_of, outcome_of}
+use Rattle.tc_aead_cipher.proofs.ReplyLaws.{reply-answered}
 use Rattle.tc_sparkle_aead.specs.declared.engine.SparkleEngine.{SparkleEngine}
 use Rattle.tc_sparkle_aead.specs.declared.message.Mac.{Mac as Tag}
 use Rattle.tc_sparkle_aead.specs.Message.{zeros}
@@ -50,25 +53,36 @@ zeros-front (suc n) zero h = absurd (omega arith)
 zeros-front (suc n) (suc m) h = ap (λ (rest : List ℕ). 0 ∷ rest) (zeros-front n m (omega arith))
 
 -- An output, the front of an array of zeros.
-pub lent : {room : List ℕ} (n : ℕ) → n ≤ 32768 → room ≡ zeros 32768 → take n room ≡ zeros n
-lent n h e = ap (take n) e ∙ zeros-front n 32768 h
+pub lent : {room : List ℕ} (n size : ℕ) → n ≤ size → room ≡ zeros size → take n room ≡ zeros n
+lent n size h e = ap (take n) e ∙ zeros-front n size h
 
 item-length : (s : List ℕ) (at : ℕ) → length (item_at s at) ≤ length s
 unfolding item_at
 item-length s at = simp (length-take, length-drop) (omega arith)
 
+-- What an item of a line says, in front of an array, as far as it has room.
+pub decoded_in : (s : List ℕ) (at size : ℕ) (room : List ℕ) {item after : List ℕ} {n : ℕ} → item ≡ item_at s at
+    → length room ≡ size → n ≡ min (length item / 2) (length room) → after ≡ decoded_out item room
+    → take n after ≡ take size (hex_bytes (item_at s at))
+unfolding decoded_out
+decoded_in s at size room {item} {after} {n} ei er en ea =
+    let bytes = take (length room) (hex_bytes item) in
+    let all : length bytes ≡ n = omega (arith, hex-length item, length-take (length room) (hex_bytes item)) in
+    ap (take n) ea
+    ∙ take_at bytes (drop (length item / 2) room) n all
+    ∙ (λ i. take (er i) (hex_bytes (ei i)))
+
+-- What an item of a line says has room in 32768 bytes.
+pub whole : (s : List ℕ) (at : ℕ) → length s ≤ 65536 → take 32768 (hex_bytes (item_at s at)) ≡ hex_bytes (item_at s at)
+whole s at h =
+    let item = item_at s at in
+    take_all 32768 (hex_bytes item) (omega (arith, hex-length item, item-length s at))
+
 -- What an item of a line says, in front of an array that has room for it.
 pub decoded : (s : List ℕ) (at : ℕ) → length s ≤ 65536 → (room : List ℕ) {item after : List ℕ} {n : ℕ} → item ≡ item_at s at
     → length room ≡ 32768 → n ≡ min (length item / 2) (length room) → after ≡ decoded_out item room
     → take n after ≡ hex_bytes (item_at s at)
-unfolding decoded_out
-decoded s at h room {item} {after} {n} ei er en ea =
-    let bytes = hex_bytes item in
-    let fits : length bytes ≤ length room = omega (arith, hex-length item, ap length ei, item-length s at) in
-    let all : length bytes ≡ n = omega (arith, hex-length item) in
-    ap (take n) (ea ∙ rw (take_all (length room) bytes fits) refl)
-    ∙ take_at bytes (drop (length item / 2) room) n all
-    ∙ ap hex_bytes ei
+decoded s at h room ei er en ea = decoded_in s at 32768 room ei er en ea ∙ whole s at h
 
 -- A call with equal runs and an equal output.
 pub same-call : (e : SparkleEngine) (kind : CallKind) (n : ℕ) (r : Done (Result ℕ Refusal)) {a a' b b' c c' out out' : List ℕ} → a ≡ a'
@@ -151,17 +165,19 @@ module _ (file : List ℕ) {answer : Checked} (ea : answer ≡ check_file file) 
 
 -- ---- The step
 
--- The answer of a call says the line of the sheet.
-sheet-line : (e : SparkleEngine) (l : List ℕ) (f : Found) (c : Done (Result ℕ Refusal)) → Leaves e (call_found l f) c → (steps : ℕ)
-    → steps ≡ steps_now c.engine → (tag : Tag) → tag ≡ mac_of c.engine
-    → line_text f.kind (record { outcome = answer_of c.answer; steps = steps; readable = tag.readable })
+-- The reply to a call's answer says the line of the sheet.
+sheet-line : (e : SparkleEngine) (l : List ℕ) (f : Found) (c : Done (Result ℕ Refusal)) → Leaves e (call_found l f) c
+    → (reply : Reply) → reply ≡ reply_of (answer_of c.answer) → (steps : ℕ) → steps ≡ steps_now c.engine
+    → (tag : Tag) → tag ≡ mac_of c.engine
+    → line_text f.kind (record { outcome = outcome_of reply; steps = steps; readable = tag.readable })
     ≡ line_text (kind_of (call_found l f)) (line (step e (call_found l f)))
 unfolding line call_found
-sheet-line e l f c ec steps es tag et =
+sheet-line e l f c ec reply er steps es tag et =
     let kind = sym (kind-kept f.kind f.number _ _ _ (zeros f.room)) in
+    let outcome = ap outcome_of er ∙ reply-answered c.answer ∙ ec.0 in
     let counted = es ∙ ap steps_now ec.1 in
     let readable = ap (λ (t : Tag). t.readable) et ∙ ap (λ (x : SparkleEngine). (mac_of x).readable) ec.1 in
-    λ i. line_text (kind i) (record { outcome = ec.0 i; steps = counted i; readable = readable i })
+    λ i. line_text (kind i) (record { outcome = outcome i; steps = counted i; readable = readable i })
 
 pub stopped-at : (file : List ℕ) (e : SparkleEngine) {x : Shown} → x ≡ stopped file e → x.run.at ≡ length file
 unfolding stopped
@@ -188,13 +204,14 @@ module _ (file : List ℕ) (r : Run) where
         rw (le-ltb 65536 (length file) size, rw el at h) (ap (λ (x : List ℕ). answered file r (call_found x f)) (sym el))
 
     -- The engine, the line and the place of a call that was made are those of the step.
-    pub next_found : (f : Found) → found_in l ≡ Some f → (c : Done (Result ℕ Refusal)) → Leaves r.engine (call_found l f) c → (steps : ℕ)
-        → steps ≡ steps_now c.engine → (tag : Tag) → tag ≡ mac_of c.engine → (text : List ℕ)
+    pub next_found : (f : Found) → found_in l ≡ Some f → (c : Done (Result ℕ Refusal)) → Leaves r.engine (call_found l f) c
+        → (reply : Reply) → reply ≡ reply_of (answer_of c.answer) → (steps : ℕ) → steps ≡ steps_now c.engine
+        → (tag : Tag) → tag ≡ mac_of c.engine → (text : List ℕ)
         → text
-        ≡ line_text f.kind (record { outcome = answer_of c.answer; steps = steps; readable = tag.readable })
+        ≡ line_text f.kind (record { outcome = outcome_of reply; steps = steps; readable = tag.readable })
         → (to : ℕ) → to ≡ line_end file r.at
         → ◌≡◌ {A = Shown} (record { text = text; run = record { engine = c.engine; at = to } }) (next_of file r)
     unfolding answered
-    next_found f h c ec steps es tag et text ex to en =
-        let shown = ex ∙ sheet-line r.engine l f c ec steps es tag et in
+    next_found f h c ec reply er steps es tag et text ex to en =
+        let shown = ex ∙ sheet-line r.engine l f c ec reply er steps es tag et in
         (λ i. record { text = shown i; run = record { engine = ec.1 i; at = en i } }) ∙ sym (next_call f h)

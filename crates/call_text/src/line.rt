@@ -8,7 +8,8 @@ use tc_aead_cipher::call::CallKind;
 use tc_aead_cipher::phase::Direction;
 use tc_aead_cipher::variant::SparkleVariant;
 
-// How far a line agrees with a shape: the place reached, and where the last four fields begin.
+// How far a line agrees with a shape: the place reached, and where the last four fields begin. Places and no
+// slices, as in `Found`.
 #[derive(Clone, Copy)]
 pub struct Fields {
     pub(crate) at: usize,
@@ -85,7 +86,6 @@ fn is_mark(mark: u8) -> bool
 
 // Whether a byte stands at a place; behind the line none does. The library's `get` gives a reference to be
 // compared, which is no plainer.
-#[tactic(auto, using(crate::proofs::LineSteps::byte_here, crate::proofs::LineSteps::no_byte))]
 fn byte_is(s: &[u8], at: usize, b: u8) -> bool
     ensures { result ≡ eqb (get_or s.now at 256) b }
 {
@@ -213,14 +213,7 @@ pub(crate) fn found_in(s: &[u8]) -> Option<Found>
     if !is_form(s) {
         return None;
     }
-    // This is a loop and not `find_map`: the check does not find this clause from that of `find_map`.
-    for kind in KINDS {
-        let found = found_as(s, kind);
-        if found.is_some() {
-            return found;
-        }
-    }
-    None
+    KINDS.iter().find_map(|kind| found_as(s, *kind))
 }
 
 // The variant of a number, where there is one.

@@ -7,8 +7,8 @@ use super::line;
 use forms::bytes;
 use tc_aead_cipher::variant::SparkleVariant;
 
-// A file that is no call list: the first line that is wrong, or 0 where the file is too long (document 02, 2026-01). It is a type of its
-// own, since a check of a file gives no other refusal; `run::begin` makes a `Refusal` of it.
+// A file that is no call list: the first line that is wrong, or 0 where the file is too long (document 02,
+// 2026-01). It is a type of its own, since a check of a file gives no other refusal; `run::begin` makes a `Refusal` of it.
 #[derive(Clone, Copy, Debug)]
 pub struct Refused {
     pub line: usize,
@@ -47,7 +47,7 @@ pub(crate) fn check(file: &[u8]) -> Result<SparkleVariant, Refused>
     let Some(v) = line::variant_in(line_at(file, 0)) else {
         return Err(Refused { line: 1 });
     };
-    // Lines differ in length, so the loop goes by the place, as the run does.
+    // By the place, as the definitions say a line; lines are counted besides, since a refusal says which.
     let mut at = line_end(file, 0);
     let mut k = 2;
     while at < file.len() {

@@ -1,5 +1,5 @@
 // The run of a file's calls on one engine, a line of the sheet at a time.
-ghost use Rattle.std.specs.Prelude.{◌≡◌, ◌<◌, ◌≤◌, length, []};
+ghost use Rattle.std.specs.Prelude.{◌≡◌, ◌<◌, ◌≤◌, min, length, take};
 ghost use Rattle.tc_sparkle_aead.specs.Message.{zeros};
 ghost use Rattle.dispatch.specs.Called.{Leaves};
 ghost use Rattle.forms.specs.Hex.{hex_bytes};
@@ -15,6 +15,7 @@ use sheet_text::text;
 use sheet_text::text::Text;
 use tc_aead_cipher::call::CallKind;
 use tc_aead_cipher::refusal::Refusal;
+use tc_aead_cipher::reply::Reply;
 use tc_aead_cipher::variant::SparkleVariant;
 use tc_sparkle_aead::engine::{Done, SparkleEngine};
 use tc_sparkle_aead::{aead_cipher, engine};
@@ -35,28 +36,38 @@ pub struct Shown {
     pub run: Run,
 }
 
-const BLANK: [u8; 32768] = [0; 32768];
+// The most bytes that an item of a line says, and the most that an output has.
+const ROOM: usize = 32768;
 
-// The bytes of the item at a place, in front of an array that has room for them.
-fn decoded<'a>(s: &[u8], at: usize, room: &'a mut [u8; 32768]) -> &'a [u8]
-    requires { length s.now ≤ 65536 }
-    ensures { result.now ≡ hex_bytes (item_at s.now at) }
+// The bytes of the item at a place, as many as an array has room for, in front of it.
+fn decoded<'a, const N: usize>(s: &[u8], at: usize, room: &'a mut [u8; N]) -> &'a [u8]
+    ensures { result.now ≡ take N (hex_bytes (item_at s.now at)) }
 {
     let n = hex::decode(line::item_at(s, at), room);
     &room[..n]
 }
 
-// That a line has at most 65536 bytes, and an output at most 32768, stands in each contract here: a slice
-// or a number with its bound would have to be made of each line, and would say no more.
-
-// A call with three runs of bytes and no output.
-fn call_with_runs(e: SparkleEngine, s: &[u8], f: Found) -> Done<Result<usize, Refusal>>
-    requires { length s.now ≤ 65536 }
-    ensures { Leaves e (call_of f.kind f.number (hex_bytes (item_at s.now f.first)) (hex_bytes (item_at s.now f.second)) (hex_bytes (item_at s.now f.third)) []) result }
+// Makes the call that was found in a line, with as much of its runs of bytes and of its output as there
+// is room for. The sizes are fixed where it is used, so that a kind of call clears no more than it needs:
+// a file of 10,902 shortest calls takes 6.5 ms so, and 42 ms where each call clears 128 KiB.
+fn call_with<const FIRST: usize, const REST: usize, const OUT: usize>(
+    e: SparkleEngine,
+    s: &[u8],
+    f: Found,
+) -> Done<Result<usize, Refusal>>
+    requires { (FIRST ≤ 32768) × (REST ≤ 32768) × (OUT ≤ 32768) }
+    ensures { Leaves e
+        (call_of f.kind f.number
+        (take FIRST (hex_bytes (item_at s.now f.first)))
+        (take REST (hex_bytes (item_at s.now f.second)))
+        (take REST (hex_bytes (item_at s.now f.third)))
+        (zeros (min f.room OUT)))
+        result }
 {
-    let mut first = BLANK;
-    let mut second = BLANK;
-    let mut third = BLANK;
+    let mut first = [0u8; FIRST];
+    let mut second = [0u8; REST];
+    let mut third = [0u8; REST];
+    let mut out = [0u8; OUT];
     let call = Call {
         kind: f.kind,
         number: f.number,
@@ -64,52 +75,23 @@ fn call_with_runs(e: SparkleEngine, s: &[u8], f: Found) -> Done<Result<usize, Re
         second: decoded(s, f.second, &mut second),
         third: decoded(s, f.third, &mut third),
     };
-    call.make(e, &mut [])
+    call.make(e, &mut out[..f.room.min(OUT)])
 }
 
-// A call with a run of bytes and an output.
-fn call_with_output(e: SparkleEngine, s: &[u8], f: Found) -> Done<Result<usize, Refusal>>
-    requires { (length s.now ≤ 65536) × (f.room ≤ 32768) }
-    ensures { Leaves e (call_of f.kind f.number (hex_bytes (item_at s.now f.first)) [] [] (zeros f.room)) result }
-{
-    let mut input = BLANK;
-    let mut out = BLANK;
-    let call = Call {
-        kind: f.kind,
-        number: f.number,
-        first: decoded(s, f.first, &mut input),
-        second: b"",
-        third: b"",
-    };
-    call.make(e, &mut out[..f.room])
-}
-
-// A call with a number.
-fn call_with_number(e: SparkleEngine, kind: CallKind, number: usize) -> Done<Result<usize, Refusal>>
-    ensures { Leaves e (call_of kind number [] [] [] []) result }
-{
-    let call = Call {
-        kind,
-        number,
-        first: b"",
-        second: b"",
-        third: b"",
-    };
-    call.make(e, &mut [])
-}
-
-// Makes the call that was found in a line. A kind has its own way, so that it clears no array that it
-// does not need: one way for all would clear 128 KiB for each `(mac)`.
+// Makes the call that was found in a line. That the line has at most 65536 bytes, and the output at most
+// 32768, stands in the contract: a slice or a number with its bound would have to be made of each line, and
+// would say no more.
 fn call(e: SparkleEngine, s: &[u8], f: Found) -> Done<Result<usize, Refusal>>
     requires { (length s.now ≤ 65536) × (f.room ≤ 32768) }
     ensures { Leaves e (call_found s.now f) result }
 {
+    // A match: each arm is another instance, with sizes that are known before.
     match f.kind {
-        CallKind::Init(_) => call_with_runs(e, s, f),
-        CallKind::Aad | CallKind::Data | CallKind::Final => call_with_output(e, s, f),
-        CallKind::Reset | CallKind::Mac | CallKind::Update | CallKind::Output => call_with_number(
-            e, f.kind, f.number,
-        ),
+        CallKind::Init(_) => call_with::<ROOM, ROOM, 0>(e, s, f),
+        CallKind::Aad | CallKind::Data | CallKind::Final => call_with::<ROOM, 0, ROOM>(e, s, f),
+        CallKind::Reset | CallKind::Mac | CallKind::Update | CallKind::Output => {
+            call_with::<0, 0, 0>(e, s, f)
+        }
     }
 }
 
@@ -133,7 +115,7 @@ pub fn begin(file: &[u8]) -> Shown
 {
     match list::check(file) {
         Err(refused) => Shown {
-            text: text::refusal(Refusal::Line(refused.line)),
+            text: text::refusal(Reply::from(Err(Refusal::Line(refused.line)))),
             run: Run {
                 engine: engine::new(SparkleVariant::Schwaemm128_128),
                 at: file.len(),
@@ -170,7 +152,7 @@ pub fn next(file: &[u8], run: Run) -> Shown
     Shown {
         text: text::line(
             f.kind,
-            c.answer,
+            Reply::from(c.answer),
             aead_cipher::steps(c.engine),
             aead_cipher::mac(c.engine).readable,
         ),

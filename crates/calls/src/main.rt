@@ -5,22 +5,17 @@
 ghost use Rattle.std.specs.Prelude.{◌≤◌, IfOk, length};
 
 use call_text::run;
-use sheet_text::text::Text;
 use std::io;
 use std::io::Read;
 
-fn show(rt: &impl Print, t: &Text) -> io::Result<()> {
-    rt.write_all(t.as_bytes())
-}
-
 fn show_all(rt: &impl Print, file: &[u8]) -> io::Result<()> {
     let begun = run::begin(file);
-    show(rt, &begun.text)?;
+    rt.write_all(begun.text.as_bytes())?;
     let mut r = begun.run;
-    // A run goes from line to line, and lines differ in length, so the loop goes by the place.
+    // A run goes from line to line, and has the place of the next itself.
     while r.at < file.len() {
         let shown = run::next(file, r);
-        show(rt, &shown.text)?;
+        rt.write_all(shown.text.as_bytes())?;
         r = shown.run;
     }
     Ok(())

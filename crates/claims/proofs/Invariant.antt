@@ -2,7 +2,7 @@
 -- the reader keeps, and what holds in each phase; with the laws of the parts of a call on such an engine: its points, its
 -- loads and its checks. StepInvariant has the steps.
 use mathlib.Core.Path.{◌≡◌, refl, sym, ap, ap₂, ◌∙◌}
-use mathlib.Core.Bool.{Bool, true, false, cond, ◌&&◌, ◌||◌}
+use mathlib.Core.Bool.{Bool, true, false, cond}
 use mathlib.Core.List.{List, [], ◌∷◌, ◌++◌}
 use Prim.Native.Nat.{ℕ, zero, suc, ◌-◌, ◌*◌, ◌≤◌, ◌<◌}
 use native.Mathlib.Omega.{arith}
@@ -10,7 +10,7 @@ use lib.Dec.{ltb}
 use borrow.Author.Tests.{ltb-false}
 use lib.ListN.{length, take, length-take}
 use Rattle.std.specs.Prelude.{Result, Ok, Err}
-use Rattle.schwaemm.specs.Bytes.{same, if_empty}
+use Rattle.schwaemm.specs.Bytes.{if_empty}
 use Rattle.schwaemm.specs.Blocks.{ready, after, given, held}
 use Rattle.schwaemm.specs.Schwaemm.{Params, Sizes, mix_last, initialise, absorb_block, absorb, prepared, message_block, decrypt, tag, body as body_of, verified, leading}
 use Rattle.schwaemm.proofs.Cut.{length-held}
@@ -326,11 +326,6 @@ unfolding current_key remember
 key_back p m [] f l = absurd (let z : ◌≡◌ {A = ℕ} 0 1 = cc in omega arith)
 key_back p m (x ∷ loads) f l = all-in_array p.key 32 x.key f.all_fit.0.key_fits m.key
 
-cond-and : (a b : Bool) → cond a b false ≡ (a && b || false)
-cond-and true true = refl
-cond-and true false = refl
-cond-and false b = refl
-
 pub repeats_agree : (p : Params) → Small p → (loads : List Load) → LoadsFit p loads → (key nonce : List ℕ)
     → repeats p (pair_in loads) key nonce ≡ is_among loads key nonce
 unfolding repeats no_pair remember
@@ -341,7 +336,7 @@ repeats_agree p m (x ∷ []) f key nonce =
       all-in_array p.key 32 x.key g.key_fits m.key,
       all-in_array p.rate 32 x.nonce g.nonce-fits m.rate,
     )
-    (cond-and (same x.key key) (same x.nonce nonce))
+    (grind arith)
 repeats_agree p m (x ∷ (y ∷ loads)) f key nonce = absurd (omega (arith, f.at_most))
 
 -- ---- The checks agree

@@ -1,7 +1,7 @@
 -- Every list of calls, resets included: while a message is under way, the bytes handed out since its start, or since the
 -- reset that restarted it, are the specification's; an accepted end completes them.
 use mathlib.Core.Path.{◌≡◌, refl, sym, ap, subst, ◌∙◌}
-use mathlib.Core.List.{List, [], ◌∷◌, ◌++◌}
+use mathlib.Core.List.{List, [], ◌∷◌, ◌++◌, append-nil}
 use Prim.Native.Nat.{ℕ}
 use native.Mathlib.Omega.{arith}
 use lib.ListN.{length, take}
@@ -28,7 +28,7 @@ use Rattle.claims.specs.Messages.{count_of, wrote, handed_by, handed, UnderWay, 
 use Rattle.claims.proofs.Invariant.{Invariant, invariant_new}
 use Rattle.claims.proofs.InvariantKept.{invariant_step}
 use Rattle.claims.proofs.CallOutputs.{end_refused}
-use Rattle.claims.proofs.UnrefusedMessages.{released-none, released-step, wrote-refused, unwritten}
+use Rattle.claims.proofs.UnrefusedMessages.{released-none, released-step, wrote-refused}
 use Rattle.claims.proofs.Demand2.{passed, end-bytes}
 
 -- ---- A message that is under way after a call was so before it, or has just begun.
@@ -112,7 +112,7 @@ module _ (v : SparkleVariant) where
           absurd (ended-over r.phase (params_of v) r refl
           (subst (λ (k : Result ℕ AeadError). UnderWay (read_end k (params_of v) r).reader.phase) q u))
       by (Err x) q =
-          sym (unwritten before _ (wrote-refused (step e (Call.Final out)) (refusal x) (end_refused v e r w out x q)))
+          rw (wrote-refused (step e (Call.Final out)) (refusal x) (end_refused v e r w out x q), append-nil) refl
           ∙ was (subst (λ (k : Result ℕ AeadError). UnderWay (read_end k (params_of v) r).reader.phase) q u)
           ∙ sym (ap (λ (k : Result ℕ AeadError). released (params_of v) (read_end k (params_of v) r).reader) q)
   so_far_step e r w Call.Reset before was u = reset-nothing r.phase (params_of v) r refl u

@@ -104,9 +104,6 @@ pub record Counted (v : SparkleVariant) (s : Steps) (r : Reader) : Type 0 where
   pub initial : s.initial ≡ steps_after_init (params_of v) r.phase r.initial % 2 ^ 64
   pub current : Before r.phase → s.current ≡ steps_before (params_of v) r.phase r.header r.body % 2 ^ 64
 
-is_below : (n k : ℕ) → n ≡ k % 2 ^ 64 → n < 2 ^ 64
-is_below n k e = omega arith
-
 pub counted-new : (v : SparkleVariant) → Counted v (new_engine v).steps new_reader
 unfolding new_engine no_steps steps_after_init steps_before
 counted-new v = record { below = omega arith; initial = refl; current = λ b. refl }
@@ -117,31 +114,31 @@ start-counted : (v : SparkleVariant) (r : Reader) (s : Steps) (d : Direction) (k
 unfolding init_steps refused_steps no_steps steps_after_init steps_before
 start-counted v r s d key nonce header (Err x) = record { below = omega arith; initial = refl; current = λ b. refl }
 start-counted v r s d key nonce [] (Ok _) =
-    record { below = is_below _ (start_steps (params_of v) []) refl; initial = refl; current = λ b. refl }
+    record { below = omega arith; initial = refl; current = λ b. refl }
 start-counted v r s d key nonce (x ∷ header) (Ok _) =
-    record { below = is_below _ (start_steps (params_of v) (x ∷ header)) refl; initial = refl; current = λ b. refl }
+    record { below = omega arith; initial = refl; current = λ b. refl }
 
 -- reset
 restart_counted : (v : SparkleVariant) (loads : List Load) (d : Direction) (first : List ℕ) (s : Steps)
     → s.initial ≡ start_steps (params_of v) first % 2 ^ 64
     → Counted v (reset_steps s) (reader_of loads first (header_phase d first) first [])
 unfolding reset_steps steps_after_init steps_before
-restart_counted v loads d [] s is = record { below = is_below _ _ is; initial = is; current = λ b. is }
-restart_counted v loads d (x ∷ first) s is = record { below = is_below _ _ is; initial = is; current = λ b. is }
+restart_counted v loads d [] s is = record { below = omega (arith, is); initial = is; current = λ b. is }
+restart_counted v loads d (x ∷ first) s is = record { below = omega (arith, is); initial = is; current = λ b. is }
 
 reset-counted : (v : SparkleVariant) (phase : Phase) (loads : List Load) (initial header body : List ℕ) (s : Steps)
     → Counted v s (reader_of loads initial phase header body)
     → Counted v (reset_steps s) (reset_in phase (reader_of loads initial phase header body))
 unfolding reset_steps steps_after_init steps_before
 reset-counted v Uninitialized loads initial header body s n =
-    record { below = is_below _ 0 n.initial; initial = n.initial; current = λ b. n.initial }
+    record { below = omega (arith, n.initial); initial = n.initial; current = λ b. n.initial }
 reset-counted v (Init d) loads initial header body s n = restart_counted v loads d initial s n.initial
 reset-counted v (Aad d) loads initial header body s n = restart_counted v loads d initial s n.initial
 reset-counted v (Data Encrypt) loads initial header body s n =
-    record { below = is_below _ (start_steps (params_of v) initial) n.initial; initial = n.initial; current = λ b. absurd b }
+    record { below = omega (arith, n.initial); initial = n.initial; current = λ b. absurd b }
 reset-counted v (Data Decrypt) loads initial header body s n = restart_counted v loads Decrypt initial s n.initial
 reset-counted v (Final Encrypt) loads initial header body s n =
-    record { below = is_below _ (start_steps (params_of v) initial) n.initial; initial = n.initial; current = λ b. absurd b }
+    record { below = omega (arith, n.initial); initial = n.initial; current = λ b. absurd b }
 reset-counted v (Final Decrypt) loads initial header body s n = restart_counted v loads Decrypt initial s n.initial
 
 -- The other calls: what they leave of the reader, for which the count after init is the same, and which in Final stays there.
@@ -234,7 +231,7 @@ module _ (v : SparkleVariant) (r : Reader) (mac : Mac)
       let q = (read v r c).reader in
       let same = call_stays v r c k in
       record {
-        below = is_below _ (s.current + ran v r c) refl;
+        below = omega arith;
         initial = n.initial ∙ ap (λ (m : ℕ). m % 2 ^ 64) (sym same.initial-same);
         current = λ b. added c k (same.was-before b)
             ∙ ap (λ (m : ℕ). m % 2 ^ 64) (so_far_before (params_of v) q.phase q.header q.body b);

@@ -142,9 +142,6 @@ pub wrote-refused : (l : StepResult) (values : List ℕ) → l.outcome ≡ Outco
 unfolding wrote
 wrote-refused l values o = ap (λ (x : Outcome). take (count_of x) l.buffer) o
 
-pub unwritten : (a b : List ℕ) → b ≡ [] → a ≡ a ++ b
-unwritten a b e = sym (append-nil a) ∙ ap (λ (l : List ℕ). a ++ l) (sym e)
-
 -- a header call gives nothing
 released-more : (p : Params) (phase : Phase) (loads : List Load) (initial header body : List ℕ) (mac : Mac)
     → PhaseInvariant p phase loads header body mac → (x : ℕ) (input : List ℕ)
@@ -191,7 +188,7 @@ released-message v e r w input out =
         let o : (step e (Call.Data input out)).outcome ≡ Outcome.no (refusal x) =
         message-outcome v e r w input out ∙ ap outcome h in
         ap (λ (k : Result ℕ AeadError). released (params_of v) (read_message k r input).reader) h
-        ∙ unwritten (released (params_of v) r) _ (ap (λ (y : Outcome). take (count_of y) (step e (Call.Data input out)).buffer) o)
+        ∙ rw (wrote-refused (step e (Call.Data input out)) (refusal x) o, append-nil) refl
 
 -- what calls between start and end give is what they wrote
 pub released-step : (v : SparkleVariant) (e : SparkleEngine) (r : Reader) → Invariant v e r → (c : Call) → Between e c
@@ -199,17 +196,17 @@ pub released-step : (v : SparkleVariant) (e : SparkleEngine) (r : Reader) → In
 unfolding step
 released-step v e r w (Call.Init d key nonce size h) b = absurd b
 released-step v e r w (Call.Aad input) b =
-    released-header v e r w input ∙ unwritten (released (params_of v) r) _ (wrote_none (step e (Call.Aad input)) refl)
+    released-header v e r w input ∙ rw (wrote_none (step e (Call.Aad input)) refl, append-nil) refl
 released-step v e r w (Call.Data input out) b = released-message v e r w input out
 released-step v e r w (Call.Final out) b =
     ap (released (params_of v)) (end_unread v e r w out b)
-    ∙ unwritten (released (params_of v) r) _ (wrote-refused (step e (Call.Final out)) b.0 b.1)
+    ∙ rw (wrote-refused (step e (Call.Final out)) b.0 b.1, append-nil) refl
 released-step v e r w Call.Reset b = absurd b
-released-step v e r w Call.Mac b = unfold read in unwritten (released (params_of v) r) _ (wrote_none (step e Call.Mac) refl)
+released-step v e r w Call.Mac b = unfold read in rw (wrote_none (step e Call.Mac) refl, append-nil) refl
 released-step v e r w (Call.Update n) b =
-    unfold read in unwritten (released (params_of v) r) _ (wrote_none (step e (Call.Update n)) refl)
+    unfold read in rw (wrote_none (step e (Call.Update n)) refl, append-nil) refl
 released-step v e r w (Call.Output n) b =
-    unfold read in unwritten (released (params_of v) r) _ (wrote_none (step e (Call.Output n)) refl)
+    unfold read in rw (wrote_none (step e (Call.Output n)) refl, append-nil) refl
 
 released-from : (v : SparkleVariant) (e : SparkleEngine) (r : Reader) → Invariant v e r → (calls : List Call)
     → AllBetween e calls
@@ -247,7 +244,7 @@ if_none (Outcome.ok n) = refl
 if_none (Outcome.no values) = refl
 
 nothing_added : (a b : List ℕ) (o : Outcome) → a ≡ b → a ≡ b ++ if_ok o []
-nothing_added a b o e = e ∙ unwritten b (if_ok o []) (if_none o)
+nothing_added a b o e = e ∙ rw (if_none o, append-nil) refl
 
 pub header-outcome : (v : SparkleVariant) (e : SparkleEngine) (r : Reader) (w : Invariant v e r) (input : List ℕ)
     → (step e (Call.Aad input)).outcome

@@ -1,15 +1,16 @@
 -- Bytes of a kind: all of a text, and those in front.
-use mathlib.Core.Path.{◌≡◌, refl, sym, ap, subst}
-use mathlib.Core.Bool.{Bool, true, false, ◌&&◌, and_assoc, and-eq-true_iff}
+use mathlib.Core.Path.{◌≡◌, refl, sym, ap}
+use mathlib.Core.Bool.{Bool, true, false, cond, ◌&&◌, and_assoc, and-eq-true_iff}
 use mathlib.Core.Logic.{◌⊎◌, inl, inr}
 use mathlib.Core.List.{List, [], ◌∷◌, ◌++◌}
-use Prim.Native.Nat.{ℕ, zero, suc, ◌+◌, ◌≤◌, ◌<◌}
+use Prim.Native.Nat.{ℕ, suc, ◌≤◌, ◌<◌}
 use Prim.Native.Char.{code}
 use native.Mathlib.Omega.{arith}
-use borrow.Author.Tests.{ltb-true, ltb-false, leb-true, ne_eqb}
-use lib.Dec.{ltb, leb}
+use borrow.Author.Tests.{leb-true, ne_eqb}
+use lib.Dec.{leb}
 use lib.ListN.{length, get_or, take}
 use lib.Seq.{take-length}
+use Rattle.std.specs.List.{prefix_len}
 use Rattle.forms.specs.Bytes.{all, front, is_letter, is_digit, is_hex_digit, is_item, is_line}
 
 pub all_cons : (kind : ℕ → Bool) (b : ℕ) (s : List ℕ) → all kind (b ∷ s) ≡ true
@@ -59,25 +60,10 @@ front_stop kind (b ∷ s) h = go (front_stop kind s) (kind b) refl h
     go f true e g = rw e (f (omega (arith, rw e at g)))
     go f false e g = rw e e
 
--- What holds below n, and of n.
-pub one_more : (P : ℕ → Type 0) (n : ℕ) → ((k : ℕ) → k < n → P k) → P n → (k : ℕ) → k < n + 1 → P k
-one_more P n f p k h = go (ltb k n) refl
-  where
-    go : (t : Bool) → ltb k n ≡ t → P k
-    go true e = f k (ltb-true k n e)
-    go false e =
-        let q : n ≡ k = omega (arith, ltb-false k n e) in
-        subst P q p
-
--- As many stand in front as are of the kind, where the next is none.
-pub front_first : (kind : ℕ → Bool) (s : List ℕ) (n : ℕ) → n ≤ length s
-    → ((k : ℕ) → k < n → kind (get_or s k 0) ≡ true) → (n < length s → kind (get_or s n 0) ≡ false)
-    → n ≡ front kind s
-front_first kind [] n h f g = omega arith
-front_first kind (b ∷ s) zero h f g = rw (g (omega arith)) refl
-front_first kind (b ∷ s) (suc n) h f g =
-    let here : kind b ≡ true = f 0 (omega arith) in
-    rw here (ap suc (front_first kind s n (omega arith) (λ k l. f (suc k) (omega arith)) (λ l. g (omega arith))))
+-- The library's word for it.
+pub front_is : (kind : ℕ → Bool) (s : List ℕ) → prefix_len kind s ≡ front kind s
+front_is kind [] = refl
+front_is kind (b ∷ s) = ap (λ n. cond (kind b) n 0) (rw (front_is kind s) (omega arith))
 
 pub all_append : (kind : ℕ → Bool) (s t : List ℕ) → all kind (s ++ t) ≡ (all kind s && all kind t)
 all_append kind [] t = refl

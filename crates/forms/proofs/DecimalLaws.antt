@@ -13,7 +13,8 @@ use borrow.Author.Tests.{ltb-true, ltb-false, lt-ltb, le-ltb, le-leb, eqb-false,
 use lib.Dec.{ltb, eqb}
 use lib.ListN.{length, get_or, length-append, get_or-append}
 use lib.Seq.{append_snoc}
-use Rattle.std.specs.Prelude.{Some, None}
+use Rattle.std.specs.Prelude.{Some}
+use Rattle.std.proofs.lemmas.Option.{none-some}
 use Rattle.forms.specs.Bytes.{all, is_digit, is_item, is_line}
 use Rattle.forms.specs.Decimal.{digit, decimal_in, decimal, with_digit, decimal_from, decimal_of}
 use Rattle.forms.proofs.BytesLaws.{all_cons, all_append, digit_range, all_digit_item, all_digit_line}
@@ -177,9 +178,6 @@ unfolding value
 value_le [] n = omega arith
 value_le (b ∷ s) n = omega (arith, value_le s (n * 10 + (b - code "0")))
 
-not_is : (n : ℕ) → None ≡ Some n → ⊥
-not_is n e = let z : ◌≡◌ {A = ℕ} 0 1 = cc in omega arith
-
 -- A reading is the value of digits, below 2^64.
 from-value : (s : List ℕ) (n : ℕ) → all is_digit s ≡ true → value n s < 2 ^ 64 → decimal_from n s ≡ Some (value n s)
 unfolding decimal_from with_digit value
@@ -201,8 +199,8 @@ from_exactly (b ∷ s) n m l e = go (is_digit b) (ltb k (2 ^ 64)) (from_exactly 
     go : (d t : Bool) → (k < 2 ^ 64 → decimal_from k s ≡ Some m → (all is_digit s ≡ true) × (value k s ≡ m) × (m < 2 ^ 64))
         → is_digit b ≡ d → ltb k (2 ^ 64) ≡ t → (all is_digit (b ∷ s) ≡ true) × (value k s ≡ m) × (m < 2 ^ 64)
     go true true f d t = let r = f (ltb-true k (2 ^ 64) t) (rw (d, t, decimal_from) at e) in (rw d r.0, r.1, r.2)
-    go true false f d t = absurd (not_is m (rw (d, t, decimal_from) at e))
-    go false u f d t = absurd (not_is m (rw (d, decimal_from) at e))
+    go true false f d t = absurd (none-some m (rw (d, t, decimal_from) at e))
+    go false u f d t = absurd (none-some m (rw (d, decimal_from) at e))
 
 pub decimal_zero_alone : (n : ℕ) → ZeroAlone (decimal n)
 unfolding decimal_in
@@ -217,7 +215,7 @@ of-from s l (inr n) = rw (ne_eqb (length s) 0 (omega arith), ne_eqb (get_or s 0 
 
 of_exactly : (s : List ℕ) (n : ℕ) → decimal_of s ≡ Some n → (0 < length s) × ZeroAlone s × (decimal_from 0 s ≡ Some n)
 unfolding decimal_of
-of_exactly [] n e = absurd (not_is n e)
+of_exactly [] n e = absurd (none-some n e)
 of_exactly (b ∷ s) n e = go (eqb b (code "0")) (ltb 1 (length (b ∷ s))) refl refl
   where
     some : eqb (length (b ∷ s)) 0 ≡ false
@@ -225,7 +223,7 @@ of_exactly (b ∷ s) n e = go (eqb b (code "0")) (ltb 1 (length (b ∷ s))) refl
 
     go : (z t : Bool) → eqb b (code "0") ≡ z → ltb 1 (length (b ∷ s)) ≡ t
         → (0 < length (b ∷ s)) × ZeroAlone (b ∷ s) × (decimal_from 0 (b ∷ s) ≡ Some n)
-    go true true z t = absurd (not_is n (rw (some, z, t) at e))
+    go true true z t = absurd (none-some n (rw (some, z, t) at e))
     go true false z t = (omega arith, inl (omega (arith, ltb-false 1 (length (b ∷ s)) t)), rw (some, z, t) at e)
     go false t z u = (omega arith, inr (eqb-false _ _ z), rw (some, z) at e)
 

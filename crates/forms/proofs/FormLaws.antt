@@ -3,7 +3,7 @@
 -- it reads (`form_reads`).
 use mathlib.Core.Path.{◌≡◌, refl, sym, ap, subst, ◌∙◌}
 use mathlib.Core.Bool.{Bool, true, false, not, cond, ◌||◌, or-true, and-eq-true_iff, false≢true}
-use mathlib.Core.Logic.{◌↔◌, ◌⊎◌, inl, inr}
+use mathlib.Core.Logic.{◌↔◌, ◌⊎◌, inl, inr, ⊎_elim}
 use mathlib.Core.List.{List, [], ◌∷◌, ◌++◌, append_assoc}
 use Prim.Native.Nat.{ℕ, zero, suc, ◌+◌, ◌%◌, ◌≤◌, ◌<◌}
 use Prim.Native.Char.{code}
@@ -14,6 +14,7 @@ use lib.Dec.{ltb, leb, eqb}
 use lib.ListN.{get_or-append, length, get_or, take, drop, length-append, length-take, length-drop, take-append-drop}
 use lib.Seq.{take-add, drop-drop, get_or-drop, length-take-le, take-length, drop-append_seam}
 use Rattle.std.specs.Prelude.{Ok, Err}
+use Rattle.std.proofs.lemmas.Bool.{or_cases, or_parts}
 use Rattle.forms.specs.Bytes.{text, all, front, is_letter, is_digit, is_hex_digit}
 use Rattle.forms.specs.Decimal.{decimal}
 use Rattle.forms.specs.Hex.{hex, hex_bytes, are_bytes, is_hex}
@@ -32,14 +33,6 @@ use Rattle.forms.proofs.HexLaws.{hex-run, hex-is, hex_exactly}
 pub split : {A : Type 0} (P : A → Type 0) (c : Bool) {x y : A} → (c ≡ true → P x) → (c ≡ false → P y) → P (cond c x y)
 split P true f g = f refl
 split P false f g = g refl
-
-either : {A : Type 0} (c d : Bool) → (c ≡ true → A) → (d ≡ true → A) → (c || d) ≡ true → A
-either true d f g e = f refl
-either false d f g e = g e
-
-neither : (c d : Bool) → (c || d) ≡ false → c ≡ false
-neither true d e = e
-neither false d e = refl
 
 -- ---- the reader over what is still to be read
 
@@ -212,8 +205,8 @@ module _ (N : List ℕ → Type 0) where
       (λ _. split Goal (leb (front is_hex_digit s) (front is_letter s))
       (λ _. split Goal (eqb (front is_letter s) 0) (λ _. some_item) letters_fit)
       (λ more. split Goal (eqb (n % 2) 0 || is_number s n)
-      (λ e. either _ _ (even_fits (leb-false _ _ more)) (digits_fit (leb-false _ _ more)) e)
-      (λ e. odd_fits (neither _ _ e))))
+      (λ e. ⊎_elim (even_fits (leb-false _ _ more)) (digits_fit (leb-false _ _ more)) (or_cases _ _ e))
+      (λ e. odd_fits (or_parts _ _ e).0)))
     where
       n : ℕ
       n = front is_hex_digit s

@@ -63,17 +63,11 @@ impl Kind for Line {
     }
 }
 
-// How many bytes of a kind stand in front. This is a loop and not the library's `position`: the check does not
-// find this clause from that of `position`.
+// How many bytes of a kind stand in front.
 pub(crate) fn front<K: Kind>(s: &[u8]) -> usize
     ensures { result ≡ front K.test s.now }
 {
-    for (n, b) in s.iter().enumerate() {
-        if !K::has(*b) {
-            return n;
-        }
-    }
-    s.len()
+    s.iter().take_while(|b| K::has(**b)).count()
 }
 
 // The bytes of a kind that stand in a row from a place on.

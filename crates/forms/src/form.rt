@@ -14,7 +14,8 @@ pub struct Stopped {
     pub at: usize,
 }
 
-// Whether the first n bytes are a number without a leading zero; n is not 0.
+// Whether the first n bytes are a number without a leading zero; n is not 0. The slice goes on behind them, as in
+// the definition, which looks at no more.
 #[tactic(auto, unfolding(crate::specs::Form::is_number))]
 fn is_number(s: &[u8], n: usize) -> bool
     ensures { result ≡ is_number s.now n }
@@ -75,7 +76,7 @@ fn form_within(s: &[u8], depth: u8) -> Result<usize, Stopped>
     if depth == 0 {
         return Err(Stopped { at: 0 });
     }
-    // Each turn goes past a blank and a whole item. Items differ in length, so the loop goes by the place.
+    // Each turn goes past a blank and a whole item. By the place, since the answer is a place too.
     let mut at = open_end(s)?;
     while at < s.len() {
         let b = s[at];

@@ -2,13 +2,14 @@
 use mathlib.Core.Path.{◌≡◌, refl, sym, ap, ap₂, ◌∙◌}
 use mathlib.Core.Bool.{Bool, true, false}
 use mathlib.Core.List.{List, [], ◌∷◌, ◌++◌, append_assoc}
-use Prim.Native.Nat.{ℕ, ◌≤◌}
+use Prim.Native.Nat.{ℕ}
 use native.Mathlib.Omega.{arith}
 use lib.ListN.{length, drop, set, length-drop}
 use Rattle.std.specs.Int.{from_bool}
 use Rattle.std.specs.Prelude.{Result}
+use Rattle.std.proofs.lemmas.List.{nil_from_length}
 use denote.Enum.Declared.{tag_of}
-use lib.Seq.{take_at, drop_at}
+use lib.Seq.{take_at, drop_at, sets-eq}
 use borrow.Rule.Slice.PartMut.{put_mid}
 use Rattle.tc_aead_cipher.specs.declared.call.CallKind.{CallKind}
 use Rattle.tc_aead_cipher.specs.declared.call.CallKind.TheVariants.{Init, Aad, Data, Final, Reset, Mac, Update, Output}
@@ -27,21 +28,11 @@ use Rattle.dispatch.specs.Called.{Leaves, output_after}
 use Rattle.host.specs.Bytes.{number}
 use Rattle.host.specs.CallList.{shown, shown_count, shown_by, flag, answer_head, answer_of}
 
-nothing : (l : List ℕ) → length l ≡ 0 → l ≡ []
-nothing [] e = refl
-nothing (x ∷ l) e = absurd (omega arith)
-
 -- ---- The head
 
 -- eight bytes that are written behind a front
 over : (u rest : List ℕ) (at n : ℕ) → length u ≡ at → put_mid at 8 (u ++ rest) (number n) ≡ (u ++ number n) ++ drop 8 rest
 over u rest at n a = rw (take_at u rest at a, drop_at u rest at a) (sym (append_assoc u (number n) (drop 8 rest)))
-
--- the first two bytes
-two : (head : List ℕ) (x y : ℕ) → 2 ≤ length head → set (set head 0 x) 1 y ≡ (x ∷ (y ∷ [])) ++ drop 2 head
-two [] x y h = absurd (omega arith)
-two (a ∷ []) x y h = absurd (omega arith)
-two (a ∷ (b ∷ head)) x y h = refl
 
 -- whether a tag can be read, as a byte
 as_flag : (b : Bool) → from_bool b ≡ flag b
@@ -61,8 +52,8 @@ module _ (head : List ℕ) (size : length head ≡ 34) (r : Reply) (readable : B
       let v = u ++ number r.second in
       let w = v ++ number steps in
       let none : drop 8 (drop 8 (drop 8 (drop 8 (drop 2 head)))) ≡ [] =
-      nothing _ (simp length-drop (omega (arith, size))) in
-      rw (m, as_flag readable, ea, eb, ec, ed, two head r.number (flag readable) (omega (arith, size)))
+      nil_from_length _ (simp length-drop (omega (arith, size))) in
+      rw (m, as_flag readable, ea, eb, ec, ed, sets-eq f head 0 (omega (arith, size)))
       (ap (λ (l : List ℕ). put_mid 26 8 (put_mid 18 8 (put_mid 10 8 l (number r.second)) (number steps)) (number n)) (over f (drop 2 head) 2 r.first refl)
       ∙ ap (λ (l : List ℕ). put_mid 26 8 (put_mid 18 8 l (number steps)) (number n)) (over u (drop 8 (drop 2 head)) 10 r.second refl)
       ∙ ap (λ (l : List ℕ). put_mid 26 8 l (number n)) (over v (drop 8 (drop 8 (drop 2 head))) 18 steps refl)
@@ -107,14 +98,14 @@ module _ (e : SparkleEngine) (n : ℕ) (first second third lent : List ℕ) wher
       → m ≡ mac_of (step e (call_of kind n first second third third)).engine → Tagged kind m left after
       → after ≡ shown e (call_of kind n first second third third)
   unfolding step output_after shown
-  shows (Init d) left after m size l t g = nothing after size
-  shows Aad left after m size l t g = nothing after size
+  shows (Init d) left after m size l t g = nil_from_length after size
+  shows Aad left after m size l t g = nil_from_length after size
   shows Data left after m size l t g = g.1 (λ e. let z : ◌≡◌ {A = ℕ} 2 5 = ap (tag_of the_type) e in absurd (omega arith)) ∙ l
   shows Final left after m size l t g = g.1 (λ e. let z : ◌≡◌ {A = ℕ} 3 5 = ap (tag_of the_type) e in absurd (omega arith)) ∙ l
-  shows Reset left after m size l t g = nothing after size
+  shows Reset left after m size l t g = nil_from_length after size
   shows Mac left after m size l t g = g.0 refl ∙ ap (λ (x : Tag). x.bytes) t
-  shows Update left after m size l t g = nothing after size
-  shows Output left after m size l t g = nothing after size
+  shows Update left after m size l t g = nil_from_length after size
+  shows Output left after m size l t g = nil_from_length after size
 
   -- the call as it is made, on what is lent; then the tag, and the head
   module _ (kind : CallKind) (l : Lent kind third lent) (given : Done (Result ℕ Refusal)) (left after head : List ℕ) (m : Tag) (steps : ℕ)

@@ -17,13 +17,6 @@ use Rattle.host.specs.Bytes.{number_at}
 use Rattle.host.specs.CallList.{head_of, call_length, well_formed, read_of, kind_at, kind_read, IsRead, first_run, second_run, third_run}
 use Rattle.host.proofs.Numbers.{number_in_front}
 
--- a test behind others that may fail
-behind_tests : (s l h : Bool) → cond s false (cond l false (cond h false false)) ≡ false
-behind_tests true l h = refl
-behind_tests false true h = refl
-behind_tests false false true = refl
-behind_tests false false false = refl
-
 -- the kind that was read: none, or one of the nine
 abbrev by_tests : (low high : Bool) → CallKind → Option CallKind
 by_tests low high kind = cond low None (cond high None (Some kind))
@@ -54,7 +47,7 @@ module _ (rest : List ℕ) where
   unfolding well_formed
   too_short over =
       let h = head_of rest in
-      none (rw (lt-leb (call_length h) (length rest) over) (behind_tests (ltb (length rest) 33) (ltb h.kind 1) (ltb 9 h.kind)))
+      none (rw (lt-leb (call_length h) (length rest) over) (grind arith))
 
   pub no_head : length rest < 33 → None ≡ read_of rest
   unfolding call_length

@@ -11,7 +11,7 @@ use lib.Dec.{leb, ltb}
 use lib.Seq.{take_at, drop_at, drop-drop, length-take-le}
 use Rattle.std.specs.Prelude.{None, Some}
 use Rattle.std.specs.List.{slice_get}
-use Rattle.std.proofs.lemmas.Option.{none-some, same_Some, cond_some}
+use Rattle.std.proofs.lemmas.Option.{none-some, cond_some}
 use Rattle.tc_aead_cipher.specs.declared.call.CallKind.{CallKind}
 use Rattle.tc_aead_cipher.specs.declared.variant.SparkleVariant.{SparkleVariant}
 use Rattle.tc_sparkle_aead.specs.declared.engine.SparkleEngine.{SparkleEngine}
@@ -28,20 +28,10 @@ by_none : (b : Bool) (k : Head) → cond b (Some k) None ≡ None → b ≡ fals
 by_none true k e = absurd (none-some k (sym e))
 by_none false k e = refl
 
-not_false : (b x : Bool) → cond b false x ≡ true → x ≡ true
-not_false true x e =
-    let z : ◌≡◌ {A = ℕ} 0 1 = ap (λ (t : Bool). cond t 1 0) e in absurd (omega arith)
-not_false false x e = e
-
 length_within : (rest : List ℕ) → well_formed rest ≡ true → call_length (head_of rest) ≤ length rest
 unfolding well_formed
 length_within rest t =
-    let h = head_of rest in
-    leb-true (call_length h) (length rest)
-    (not_false (ltb 9 h.kind) (leb (call_length h) (length rest))
-    (not_false (ltb h.kind 1) (cond (ltb 9 h.kind) false (leb (call_length h) (length rest)))
-    (not_false (ltb (length rest) 33)
-    (cond (ltb h.kind 1) false (cond (ltb 9 h.kind) false (leb (call_length h) (length rest)))) t)))
+    leb-true (call_length (head_of rest)) (length rest) (grind (arith, t))
 
 pub read_found : (rest : List ℕ) (h : Head) → Some h ≡ read_of rest
     → (h ≡ head_of rest) × (well_formed rest ≡ true) × (call_length h ≤ length rest)
@@ -231,11 +221,6 @@ module _ {W : Ran} {rest out₀ out : List ℕ} {e : SparkleEngine} {used : ℕ}
         walk_turn = by_fuel w.fuel w.enough w.run_is
 
 -- ---- the whole list
-
--- the first byte
-pub first_byte : (list : List ℕ) (v : ℕ) → Some v ≡ slice_get list 0 → v ≡ get_or list 0 0
-first_byte [] v e = absurd (none-some v (sym e))
-first_byte (x ∷ list) v e = same_Some v x e
 
 -- a list whose first byte is no variant's number is not run
 pub list_refused : (list out : List ℕ) → is_variant (get_or list 0 0) ≡ false

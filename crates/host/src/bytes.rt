@@ -2,7 +2,7 @@
 ghost use Rattle.std.specs.Prelude.{◌≡◌, ◌+◌, ◌≤◌, length};
 ghost use Rattle.host.specs.Bytes.{number_at, number};
 
-// The number that stands at a place.
+// The number that stands at a place: a head has its numbers at places that are fixed.
 #[tactic(auto, using(crate::proofs::Numbers::number_of_bytes))]
 pub(crate) fn number_at(bytes: &[u8], at: usize) -> usize
     requires { at + 8 ≤ length bytes.now }

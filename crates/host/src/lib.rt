@@ -10,7 +10,8 @@ mod bytes;
 mod call;
 pub mod run;
 
-// Runs a call list from one slice and writes the answers to another.
+// Runs a call list from one slice and writes the answers to another. The code is a number, as `crates/host_c`
+// hands it to C.
 pub fn schwaemm_run(list: &[u8], answers: &mut [u8], place: &mut usize) -> u8
     ensures value { result ≡ (run_list list.now (length answers.old)).code }
     ensures place_after { place.new ≡ length list.now - (run_list list.now (length answers.old)).left }

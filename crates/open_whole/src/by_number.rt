@@ -7,8 +7,8 @@ use tc_aead_cipher::variant::SparkleVariant;
 use tc_sparkle_aead::verify;
 
 // Opens a packet; 23 where no variant has the number.
-// `packet.rt` of `crates/packet` has the same match. A function
-// for both would take the call as a closure, and be no shorter.
+// `packet.rt` of `crates/packet` has the same match. 23 is no answer of a call, so it is no case of `Refusal`; a
+// function for both would take the call as a closure, and be no shorter.
 #[tactic(auto, unfolding(crate::specs::OpenWhole::open_whole_of))]
 pub(crate) fn open_whole(
     v: u8,

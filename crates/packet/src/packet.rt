@@ -8,8 +8,8 @@ use tc_aead_cipher::variant::SparkleVariant;
 use tc_sparkle_aead::whole;
 
 // Seals a message or opens a packet; 23 where no variant has the number.
-// `by_number.rt` of `crates/open_whole` has the same match. A function
-// for both would take the call as a closure, and be no shorter.
+// `by_number.rt` of `crates/open_whole` has the same match. 23 is no answer of a call, so it is no case of
+// `Refusal`; a function for both would take the call as a closure, and be no shorter.
 #[tactic(auto, unfolding(crate::specs::Packet::packet_of))]
 pub(crate) fn packet(
     v: u8,

@@ -114,7 +114,7 @@ fn differs(
 }
 
 // Compares the answers to a list, each with the one that it has to be. There are no fewer bytes of
-// the first than of the others.
+// the first than of the others. Printer and number stand side by side, as at `differs`.
 pub(crate) fn answers(
     rt: &impl Print,
     list: u64,

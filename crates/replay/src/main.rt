@@ -23,7 +23,7 @@ struct Counts {
 }
 
 // Says where the run of a list stopped before its end, and answers whether it did: code and place are
-// docs/HOST.md's, as C has them.
+// docs/HOST.md's, as C has them. Printer and list stand side by side here and below, as at `differs` of compare.rt.
 fn stopped(rt: &impl Print, list: u64, code: u8, place: usize) -> io::Result<bool> {
     if code == 0 {
         return Ok(false);
@@ -77,10 +77,10 @@ fn list<R: Read>(
 ) -> Result<(), ReplayError> {
     let mut list = record::ROOM;
     let mut expected = record::ROOM;
-    record::read(file, &mut list, n)?;
+    let list = record::read(file, &mut list, n)?;
     let answers = record::read_number(file)? as usize;
-    record::read(file, &mut expected, answers)?;
-    run_list(rt, counts, &list[..n], &expected[..answers])
+    let expected = record::read(file, &mut expected, answers)?;
+    run_list(rt, counts, list, expected)
 }
 
 // The file ends here, and has as many lists and calls as it says.

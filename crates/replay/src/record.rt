@@ -2,7 +2,7 @@
 // answers, and the answers that the list has to have, both byte for byte as docs/HOST.md says. Behind
 // the last list stand a length of 0, the number of lists and the number of calls, and nothing more.
 // Every number has eight bytes, the lowest first.
-ghost use Rattle.std.specs.Prelude.{◌≡◌, ◌≤◌, OnOk, length};
+ghost use Rattle.std.specs.Prelude.{◌≡◌};
 ghost use Rattle.host.specs.Bytes.{number_at};
 
 use super::error::ReplayError;
@@ -20,15 +20,15 @@ pub(crate) fn number(bytes: [u8; 8]) -> u64
     u64::from_le_bytes(bytes)
 }
 
-// Reads the next n bytes, for which the buffer has to have room: it has a fixed length, since there is no heap.
-pub(crate) fn read<R: Read>(file: &mut R, buf: &mut [u8], n: usize) -> Result<(), ReplayError>
-    ensures { OnOk result (n ≤ length buf.new) }
-{
-    if n > buf.len() {
-        return Err(ReplayError::Malformed);
-    }
-    file.read_exact(&mut buf[..n])?;
-    Ok(())
+// Reads the next n bytes into the front of the room, where they have room.
+pub(crate) fn read<'a, R: Read>(
+    file: &mut R,
+    room: &'a mut [u8],
+    n: usize,
+) -> Result<&'a [u8], ReplayError> {
+    let front = room.get_mut(..n).ok_or(ReplayError::Malformed)?;
+    file.read_exact(front)?;
+    Ok(front)
 }
 
 // Reads the next number.

@@ -6,7 +6,7 @@ use Prim.Native.Nat.{ℕ, zero, suc, ◌+◌, ◌*◌, ◌/◌, ◌%◌, ◌^◌
 use native.Mathlib.Nat.{mod-lt, zero-div}
 use native.Mathlib.Omega.{arith}
 use lib.Dec.{lit<}
-use lib.Bits.{bit_xor, xor_shr, xor_mod}
+use lib.Bits.{xor_shr, xor_mod}
 use lib.ListN.{length, take, drop, get_or}
 use lib.Seq.{take-nil, drop-nil}
 use Rattle.sparkle.specs.Words.{Words, Bytes}
@@ -133,16 +133,11 @@ to_bytes-at (x ∷ w) (suc (suc (suc (suc i)))) =
     let f : suc (suc (suc (suc i))) % 4 ≡ i % 4 = omega arith in
     rw (e, f) (to_bytes-at w i)
 
--- a byte of a xor
-xor_byte : (x y k : ℕ) → bit_xor x y / 2 ^ k % 2 ^ 8 ≡ bit_xor (x / 2 ^ k % 2 ^ 8) (y / 2 ^ k % 2 ^ 8)
-xor_byte x y k = ap (λ (n : ℕ). n % 2 ^ 8) (xor_shr x y k) ∙ xor_mod (x / 2 ^ k) (y / 2 ^ k) 8
-
 pub to_bytes-xors : (u v : List ℕ) → to_bytes (xors u v) ≡ xors (to_bytes u) (to_bytes v)
 unfolding to_bytes xors
 to_bytes-xors [] v = refl
 to_bytes-xors (x ∷ u) [] = refl
-to_bytes-xors (x ∷ u) (y ∷ v) =
-    λ i. xor_mod x y 8 i ∷ (xor_byte x y 8 i ∷ (xor_byte x y 16 i ∷ (xor_byte x y 24 i ∷ to_bytes-xors u v i)))
+to_bytes-xors (x ∷ u) (y ∷ v) = simp (xor_shr, xor_mod, to_bytes-xors u v)
 
 -- both lists are whole words; one may be longer
 pub to_words-xors : {a b : List ℕ} → Bytes a → Bytes b → length a % 4 ≡ 0 → length b % 4 ≡ 0 → to_words (xors a b) ≡ xors (to_words a) (to_words b)

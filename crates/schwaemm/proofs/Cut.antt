@@ -2,12 +2,13 @@
 -- by what comes, gives the blocks that were still to come, since the first n blocks depend on the first n * rate bytes
 -- alone and n + m blocks are n blocks and then m.
 use mathlib.Core.Path.{◌≡◌, refl, sym, ap, ap₂, ◌∙◌}
-use mathlib.Core.List.{List, [], ◌∷◌, ◌++◌, append_assoc}
+use mathlib.Core.List.{List, ◌++◌, append_assoc}
 use Prim.Native.Nat.{ℕ, zero, suc, ◌+◌, ◌-◌, ◌*◌, ◌/◌, ◌≤◌, ◌<◌}
 use native.Mathlib.Nat.{zero-add, suc-add, add_comm, suc-mul, add-mul, zero-mul, div-mul-le_self, lt-div-mul-add, add-mul-div_right, div-eq_of_lt}
 use native.Mathlib.Omega.{arith}
 use lib.ListN.{length, take, drop, length-append, length-drop, take-append-drop}
-use lib.Seq.{length-take-le, take-append-le, drop-append-le, take-take, take-nil, drop-drop}
+use lib.Seq.{length-take-le, take-append-le, drop-append-le, take-take, drop-drop}
+use Rattle.std.proofs.lemmas.List.{drop-take}
 use Rattle.schwaemm.specs.Blocks.{ready, after, given, held}
 
 -- Numbers of blocks.
@@ -48,12 +49,6 @@ module _ (rate keep : ℕ) where
         ap (λ (k : ℕ). k / rate) e
         ∙ add-mul-div_right (n - q * rate + m - (keep + 1)) q pos
         ∙ add_comm _ q
-
--- n elements dropped from n + k leave k of those that follow
-pub drop-take : (n k : ℕ) (d : List ℕ) → drop n (take (n + k) d) ≡ take k (drop n d)
-drop-take zero k d = ap (λ (j : ℕ). take j d) (zero-add k)
-drop-take (suc n) k [] = ap (λ (j : ℕ). drop (suc n) (take j [])) (suc-add n k) ∙ sym (take-nil k)
-drop-take (suc n) k (x ∷ d) = ap (λ (j : ℕ). drop (suc n) (take j (x ∷ d))) (suc-add n k) ∙ drop-take n k d
 
 -- (1 + n) * rate bytes are a block and n blocks
 pub first_and_rest : (n rate : ℕ) → suc n * rate ≡ rate + n * rate

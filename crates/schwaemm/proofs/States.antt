@@ -2,11 +2,11 @@
 -- `xors` cuts nothing off, and the permutation pads and reduces nothing. The permutation's results are states whatever
 -- it is given, so no law here asks for more than the state that is begun with.
 use mathlib.Core.Path.{◌≡◌, refl, sym, ap, ◌∙◌}
-use mathlib.Core.Bool.{Bool, true, false, cond}
 use mathlib.Core.List.{List, [], ◌∷◌, ◌++◌, append_assoc}
 use Prim.Native.Nat.{ℕ, ◌+◌, ◌-◌, ◌*◌, ◌/◌, ◌^◌, ◌≤◌, ◌<◌, min}
 use native.Mathlib.Omega.{arith}
 use borrow.Author.Tests.{lt-ltb, le-ltb}
+use Rattle.std.proofs.lemmas.Bool.{cond_both}
 use lib.Dec.{ltb, lit<}
 use lib.Pow.{pow-lt, shl_lt}
 use lib.Bits.{bit_xor, xor_lt}
@@ -117,10 +117,6 @@ module _ (p : Params) (h : Sizes p) where
         let capacity = length-inner in
         simp (length-append, length-xors) (omega arith)
 
--- `replicate-append-replicate` for numbers
-zeros : (n m : ℕ) → replicate {A = ℕ} n 0 ++ replicate m 0 ≡ replicate (n + m) 0
-zeros n m = replicate-append-replicate n m 0
-
 -- The last block.
 module _ (p : Params) where
   pub length-padded : (block : List ℕ) → length (padded p block) ≡ p.rate
@@ -137,7 +133,7 @@ module _ (p : Params) where
   padded_short block n e =
       let r : p.rate ≡ n + (length block + 1) = omega arith in
       ap (λ (k : ℕ). take p.rate (block ++ (0x80 ∷ replicate k 0))) r
-      ∙ rw (← zeros n (length block + 1), ← append_assoc block (0x80 ∷ replicate n 0) (replicate (length block + 1) 0))
+      ∙ rw (← replicate-append-replicate {A = ℕ} n (length block + 1) 0, ← append_assoc block (0x80 ∷ replicate n 0) (replicate (length block + 1) 0))
       (take_at (block ++ (0x80 ∷ replicate n 0)) (replicate (length block + 1) 0) p.rate
       (simp (length-append, length-replicate) (omega arith)))
 
@@ -157,11 +153,8 @@ last_v_full p short block h = rw (le-ltb _ _ h) refl
 -- The words that are handed to the permutation.
 last_v_bound : (p : Params) (short : ℕ) (block : List ℕ) → last_v p short block ≤ short + 1
 unfolding last_v
-last_v_bound p short block = one_of (ltb (length block) p.rate)
-  where
-    one_of : (c : Bool) → cond c short (short + 1) ≤ short + 1
-    one_of true = omega arith
-    one_of false = omega arith
+last_v_bound p short block =
+    cond_both (ltb (length block) p.rate) short (short + 1) (λ (n : ℕ). n ≤ short + 1) (λ e. omega arith) (λ e. omega arith)
 
 module _ (p : Params) where
   pub words-with_domain : (v : ℕ) {s : List ℕ} → Sizes p → v < 2 ^ 8 → Words s → Words (with_domain p v s)

@@ -2,24 +2,20 @@
 -- bytes and the message 33, so that both end in a short block and the message has full blocks before it. The bytes
 -- expected are the Rust original's. Each theorem is shown by computing.
 use mathlib.Core.Path.{◌≡◌, refl}
-use mathlib.Core.List.{List, [], ◌∷◌, ◌++◌}
-use Prim.Native.Nat.{ℕ, zero, suc}
+use mathlib.Core.List.{List, [], ◌∷◌}
+use Prim.Native.Nat.{ℕ}
+use Rattle.std.specs.List.{range_with_len}
 use Rattle.sparkle.specs.Words.{addw, rotr, ell}
 use Rattle.sparkle.specs.Sparkle.{rcon, quarter, arx_box, constants, boxes, xor_xs, xor_ys, xors, xor_each, feistel, linear, step, run, state, sparkle}
 use Rattle.schwaemm.specs.Bytes.{to_words, to_bytes, if_empty}
 use Rattle.schwaemm.specs.Blocks.{ready, after, given}
 use Rattle.schwaemm.specs.Schwaemm.{Params, schwaemm128_128, schwaemm256_128, schwaemm192_192, schwaemm256_256, outer, inner, permute, feistel_swap, rho1, whitening, mix, crypt, padded, domain, with_domain, last_v, mix_last, initialise, leading, absorb_block, absorb, prepared, sealing, message_block, before_last, last_block, message, crypted, tag_of, encrypt, tag, seal}
 
--- The n bytes 0, 1, .., n - 1.
-counting : ℕ → List ℕ
-counting zero = []
-counting (suc n) = counting n ++ n ∷ []
-
 -- What is sealed where key, nonce, header and message all count up from 0. Its `unfolding` line opens the whole
 -- specification, for the theorems below too.
 sealed : Params → List ℕ
-unfolding counting addw rotr ell rcon quarter arx_box constants boxes xor_xs xor_ys xors xor_each feistel linear step run state sparkle to_words to_bytes if_empty ready after given outer inner permute feistel_swap rho1 whitening mix crypt padded domain with_domain last_v mix_last initialise leading absorb_block absorb prepared sealing message_block before_last last_block message crypted tag_of encrypt tag seal
-sealed p = seal p (counting p.key) (counting p.rate) (counting 20) (counting 33)
+unfolding addw rotr ell rcon quarter arx_box constants boxes xor_xs xor_ys xors xor_each feistel linear step run state sparkle to_words to_bytes if_empty ready after given outer inner permute feistel_swap rho1 whitening mix crypt padded domain with_domain last_v mix_last initialise leading absorb_block absorb prepared sealing message_block before_last last_block message crypted tag_of encrypt tag seal
+sealed p = seal p (range_with_len 0 p.key) (range_with_len 0 p.rate) (range_with_len 0 20) (range_with_len 0 33)
 
 sealed128_128 :
     sealed schwaemm128_128

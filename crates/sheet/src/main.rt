@@ -11,6 +11,7 @@ use tc_aead_cipher::call::CallKind;
 use tc_aead_cipher::phase::Direction;
 use tc_aead_cipher::refusal;
 use tc_aead_cipher::refusal::Refusal;
+use tc_aead_cipher::reply::Reply;
 use tc_aead_cipher::variant::SparkleVariant;
 use tc_sparkle_aead::engine;
 use tc_sparkle_aead::engine::SparkleEngine;
@@ -24,7 +25,7 @@ fn show(
 ) -> io::Result<()> {
     let steps = aead_cipher::steps(e);
     let tag = aead_cipher::mac(e);
-    rt.write_all(text::line(kind, answer, steps, tag.readable).as_bytes())
+    rt.write_all(text::line(kind, Reply::from(answer), steps, tag.readable).as_bytes())
 }
 
 // A sealing start without initial header.
@@ -36,6 +37,8 @@ fn init(rt: &impl Print, e: &mut SparkleEngine) -> io::Result<()> {
     show(rt, e, kind, refusal::start_answer(answer))
 }
 
+// The calls of the sheet, each with its line. One function for the three would take the call as a closure, and be
+// no shorter.
 fn process_aad_bytes(rt: &impl Print, e: &mut SparkleEngine, input: &[u8]) -> io::Result<()> {
     let answer = aead_cipher::process_aad_bytes(e, input);
     show(rt, e, CallKind::Aad, refusal::call_answer(answer))

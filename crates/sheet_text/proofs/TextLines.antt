@@ -1,5 +1,5 @@
 -- Every line, every title and every refusal fits the array.
-use mathlib.Core.Path.{◌≡◌, refl, ap, ◌∙◌}
+use mathlib.Core.Path.{◌≡◌, refl, ap}
 use mathlib.Core.Bool.{Bool, true, false}
 use mathlib.Core.List.{List, [], ◌∷◌}
 use Prim.Native.Nat.{ℕ, zero, suc, ◌+◌, ◌^◌, ◌≤◌, ◌<◌}
@@ -12,12 +12,7 @@ use Rattle.tc_aead_cipher.specs.declared.call.CallKind.TheVariants.{Init, Aad, D
 use Rattle.tc_aead_cipher.specs.declared.reply.Reply.{Reply}
 use Rattle.tc_aead_cipher.specs.declared.variant.SparkleVariant.{SparkleVariant}
 use Rattle.tc_aead_cipher.specs.declared.variant.SparkleVariant.TheVariants.{Schwaemm128_128, Schwaemm256_128, Schwaemm192_192, Schwaemm256_256}
-use Rattle.tc_aead_cipher.specs.declared.refusal.Refusal.{Refusal}
-use Rattle.tc_aead_cipher.specs.Refusals.{numbers_of}
-use Rattle.tc_aead_cipher.specs.Outcome.{Outcome}
-use Rattle.tc_aead_cipher.specs.Outcome.Outcome.{ok, no}
-use Rattle.tc_aead_cipher.specs.Reply.{reply_of, outcome_of, refusal_of}
-use Rattle.tc_aead_cipher.proofs.ReplyLaws.{reply-numbers}
+use Rattle.tc_aead_cipher.specs.Reply.{outcome_of, refusal_of}
 use Rattle.forms.specs.Bytes.{text}
 use Rattle.forms.specs.Decimal.{decimal_in, decimal}
 use Rattle.forms.proofs.DecimalLaws.{decimal-length}
@@ -43,23 +38,6 @@ word n h = decimal-length n 19 (omega arith)
 spaced-length : (n : ℕ) (ns : List ℕ) → length (spaced (n ∷ ns)) ≡ suc (length (decimal n) + length (spaced ns))
 spaced-length n ns = ap suc (length-append (decimal n) (spaced ns))
 
--- The parts of an answer, as long as they can be.
-pub count-length : (n : ℕ) → n < 2 ^ 64 → length (outcome_text (ok n)) ≤ 50
-count-length n h = omega (arith, length-append (decimal n) (text ")"), word n h)
-
-pub no-length : (vs : List ℕ) → length (spaced vs) ≤ 46 → length (outcome_text (no vs)) ≤ 50
-no-length vs h = omega (arith, length-append (spaced vs) (text ")"), h)
-
-pub refusal_fits : (vs : List ℕ) → length (spaced vs) ≤ 46 → length (refusal_text vs) ≤ 128
-unfolding refusal_text
-refusal_fits vs h = omega (arith, length-append (spaced vs) (text ")\n"), h)
-
--- A line of every kind of call, answer, count and flag fits.
-pub line_fits : (o : Outcome) → length (outcome_text o) ≤ 50 → (kind : CallKind) (steps : ℕ) (b : Bool) → steps < 2 ^ 64
-    → length (line_text kind (record { outcome = o; steps = steps; readable = b })) ≤ 128
-unfolding line_text
-line_fits o h kind steps b w = simp length-append (omega (arith, name_length kind, h, word steps w, flag-length b))
-
 module _ (r : Reply) (number : r.number < 256) (first : r.first < 2 ^ 64) (second : r.second < 2 ^ 64) where
   number-length : length (decimal r.number) ≤ 3
   number-length = decimal-length r.number 2 (omega arith)
@@ -78,21 +56,22 @@ module _ (r : Reply) (number : r.number < 256) (first : r.first < 2 ^ 64) (secon
       rw (take_all {A = ℕ} k [] (omega arith))
       (omega (arith, m, n, o, number-length, word r.first first, word r.second second))
 
-  -- The numbers of a refusal whose reply this is.
-  pub numbers-length : (x : Refusal) → r ≡ reply_of (no (numbers_of x)) → length (spaced (numbers_of x)) ≤ 46
-  numbers-length x e = rw (← (ap refusal_of e ∙ reply-numbers x)) (values_length r.values)
-
   outcome-length : (s : Bool) → eqb r.number 0 ≡ s → length (outcome_text (outcome_of r)) ≤ 50
-  outcome-length true e = rw e (count-length r.first first)
-  outcome-length false e = rw e (no-length (refusal_of r) (values_length r.values))
+  outcome-length true e = rw e (omega (arith, length-append (decimal r.first) (text ")"), word r.first first))
+  outcome-length false e =
+      rw e (omega (arith, length-append (spaced (refusal_of r)) (text ")"), values_length r.values))
 
   pub refusal-fits : length (refusal_text (refusal_of r)) ≤ 128
-  refusal-fits = refusal_fits (refusal_of r) (values_length r.values)
+  unfolding refusal_text
+  refusal-fits = omega (arith, length-append (spaced (refusal_of r)) (text ")\n"), values_length r.values)
 
-  -- The same of a reply, whatever it is.
+  -- A line of every kind of call, reply, count and flag fits.
   pub line-fits : (kind : CallKind) (steps : ℕ) (b : Bool) → steps < 2 ^ 64
       → length (line_text kind (record { outcome = outcome_of r; steps = steps; readable = b })) ≤ 128
-  line-fits = line_fits (outcome_of r) (outcome-length (eqb r.number 0) refl)
+  unfolding line_text
+  line-fits kind steps b h =
+      simp length-append
+      (omega (arith, name_length kind, outcome-length (eqb r.number 0) refl, word steps h, flag-length b))
 
 pub title-fits : (v : SparkleVariant) → length (title_text v) ≤ 128
 unfolding title_text decimal_in

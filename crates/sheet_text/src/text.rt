@@ -1,7 +1,6 @@
 // The texts of document 01's sheet ("Worked by hand"): its title and its lines, each by value.
-ghost use Rattle.std.specs.Prelude.{◌≡◌, ◌≤◌, [], ◌++◌, length};
-ghost use Rattle.tc_aead_cipher.specs.Refusals.{numbers_of};
-ghost use Rattle.tc_aead_cipher.specs.Outcome.{answered};
+ghost use Rattle.std.specs.Prelude.{◌≡◌, [], ◌++◌};
+ghost use Rattle.tc_aead_cipher.specs.Reply.{outcome_of, refusal_of};
 ghost use Rattle.forms.specs.Bytes.{text};
 ghost use Rattle.forms.specs.Decimal.{decimal};
 ghost use Rattle.sheet_text.specs.Text.{Adds, spaced, outcome_text, name_text, flag_text, refusal_text, line_text, title_text};
@@ -9,7 +8,6 @@ ghost use Rattle.sheet_text.specs.Text.{Adds, spaced, outcome_text, name_text, f
 use itoa::Buffer;
 use std::marker::Model;
 use tc_aead_cipher::call::CallKind;
-use tc_aead_cipher::refusal::Refusal;
 use tc_aead_cipher::reply::Reply;
 use tc_aead_cipher::variant::SparkleVariant;
 
@@ -89,11 +87,9 @@ impl Text {
     }
 
     // Adds a refusal's number and as many values as its reply has.
-    fn push_refusal(&mut self, x: Refusal)
-        ensures after { Adds self.old (spaced (numbers_of x)) self.new }
-        ensures fits { length (spaced (numbers_of x)) ≤ 46 }
+    fn push_refusal(&mut self, reply: Reply)
+        ensures { Adds self.old (spaced (refusal_of reply)) self.new }
     {
-        let reply = Reply::from(Err(x));
         self.push_spaced(reply.number as u64);
         match reply.values {
             0 => {}
@@ -106,21 +102,17 @@ impl Text {
     }
 
     // Adds an answer.
-    fn push_outcome(&mut self, answer: Result<usize, Refusal>)
-        ensures after { Adds self.old (outcome_text (answered answer)) self.new }
-        ensures fits { length (outcome_text (answered answer)) ≤ 50 }
+    fn push_outcome(&mut self, reply: Reply)
+        ensures { Adds self.old (outcome_text (outcome_of reply)) self.new }
     {
-        match answer {
-            Ok(n) => {
-                self.push(b"(ok ");
-                self.push_number(n as u64);
-                self.push(b")");
-            }
-            Err(x) => {
-                self.push(b"(no");
-                self.push_refusal(x);
-                self.push(b")");
-            }
+        if reply.number == 0 {
+            self.push(b"(ok ");
+            self.push_number(reply.first as u64);
+            self.push(b")");
+        } else {
+            self.push(b"(no");
+            self.push_refusal(reply);
+            self.push(b")");
         }
     }
 }
@@ -148,26 +140,27 @@ fn flag(b: bool) -> &'static [u8]
     if b { b"1" } else { b"0" }
 }
 
-// A line that is a refusal alone.
-pub fn refusal(x: Refusal) -> Text
-    ensures { result ≡ refusal_text (numbers_of x) }
+// A line that is a refusal alone; of a reply, as `line` is.
+pub fn refusal(reply: Reply) -> Text
+    ensures { result ≡ refusal_text (refusal_of reply) }
 {
     let mut refusal = Text::new();
     refusal.push(b"(no");
-    refusal.push_refusal(x);
+    refusal.push_refusal(reply);
     refusal.push(b")\n");
     refusal
 }
 
 // A line of a sheet: the call, its answer, the steps, and whether a tag can be read.
-pub fn line(kind: CallKind, answer: Result<usize, Refusal>, steps: u64, readable: bool) -> Text
-    ensures { result ≡ line_text kind (record { outcome = answered answer; steps = steps; readable = readable }) }
+// It takes a Reply and no Result: the text is of a reply's numbers, and any reply is taken.
+pub fn line(kind: CallKind, reply: Reply, steps: u64, readable: bool) -> Text
+    ensures { result ≡ line_text kind (record { outcome = outcome_of reply; steps = steps; readable = readable }) }
 {
     let mut line = Text::new();
     line.push(b"(");
     line.push(name(kind));
     line.push(b" ");
-    line.push_outcome(answer);
+    line.push_outcome(reply);
     line.push(b" (work ");
     line.push_number(steps);
     line.push(b") (tag ");

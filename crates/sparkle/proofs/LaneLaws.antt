@@ -139,11 +139,9 @@ ell-lanes v t above hv =
     ∙ ap (λ (l : List ℕ). lanes2 bit_xor l (lanes (λ x. x / 2 ^ 16) (lanes (shlw 16) v))) above)
     ∙ four_ext (λ i. ell_halves (get_or v i 0) (hv i))
 
-xor_four : (a b c d : ℕ) → bit_xor (bit_xor a d) (bit_xor b c) ≡ bit_xor (bit_xor (bit_xor a b) c) d
-xor_four a b c d =
-    xor_assoc a d (bit_xor b c)
-    ∙ ap (λ (n : ℕ). bit_xor a n) (xor_comm d (bit_xor b c) ∙ xor_assoc b c d)
-    ∙ sym (xor_assoc a b (bit_xor c d)) ∙ sym (xor_assoc (bit_xor a b) c d)
+xor_swap : (p q r s : ℕ) → bit_xor (bit_xor p q) (bit_xor r s) ≡ bit_xor (bit_xor p r) (bit_xor q s)
+xor_swap p q r s =
+    cc (xor_assoc p q (bit_xor r s), xor_assoc p r (bit_xor q s), xor_assoc q r s, xor_assoc r q s, xor_comm q r)
 
 pub fold_lanes : (v : List ℕ) → lanes2 bit_xor (lanes2 bit_xor v (shuffled 0x1b v)) (shuffled 0xb1 (lanes2 bit_xor v (shuffled 0x1b v))) ≡ folded v
 unfolding lanes2 shuffled folded
@@ -152,7 +150,7 @@ fold_lanes v =
     let b = get_or v 1 0 in
     let c = get_or v 2 0 in
     let d = get_or v 3 0 in
-    let outside = xor_four a b c d in
+    let outside = xor_swap a d b c ∙ ap (bit_xor (bit_xor a b)) (xor_comm d c) ∙ sym (xor_assoc (bit_xor a b) c d) in
     let inside = xor_comm (bit_xor b c) (bit_xor a d) ∙ outside in
     λ k.
     outside k
@@ -160,13 +158,6 @@ fold_lanes v =
     ∷ ((ap₂ bit_xor (xor_comm c b) (xor_comm d a) ∙ inside) k ∷ ((ap₂ bit_xor (xor_comm d a) (xor_comm c b) ∙ outside) k ∷ [])))
 
 -- ell goes through a xor, since each of its three parts does
-xor_swap : (p q r s : ℕ) → bit_xor (bit_xor p q) (bit_xor r s) ≡ bit_xor (bit_xor p r) (bit_xor q s)
-xor_swap p q r s =
-    xor_assoc p q (bit_xor r s)
-    ∙ ap (λ (n : ℕ). bit_xor p n)
-    (sym (xor_assoc q r s) ∙ ap (λ (n : ℕ). bit_xor n s) (xor_comm q r) ∙ xor_assoc r q s)
-    ∙ sym (xor_assoc p r (bit_xor q s))
-
 shlw_xor : (a b : ℕ) → shlw 16 (bit_xor a b) ≡ bit_xor (shlw 16 a) (shlw 16 b)
 shlw_xor a b =
     high_part 16 (lit≤ tt) (bit_xor a b) ∙ ap (λ (n : ℕ). n * 2 ^ 16) (xor_mod a b 16) ∙ sym (add-zero _)

@@ -9,20 +9,14 @@ use Rattle.std.specs.Int.Bits.{or_self}
 use Rattle.sparkle.specs.Words.{addw, shlw, rotr}
 use Rattle.sparkle.proofs.Xor.{xor_assoc}
 
--- a shift left by j drops all but the low k bits, where k + j bits stay
-shl_low : (x k j : ℕ) → x * 2 ^ j % 2 ^ (k + j) ≡ x % 2 ^ k * 2 ^ j
-shl_low x k j =
-    mod-pow-add (x * 2 ^ j) k j
-    ∙ ap₂ (λ (a b : ℕ). a % 2 ^ k * 2 ^ j + b) (shl-shr x j) (mul-mod_left x (2 ^ j))
-    ∙ add-zero (x % 2 ^ k * 2 ^ j)
-
 module _ (k : ℕ) (hk : k ≤ 32) where
   -- the left shift of a rotation by k, and a bound on the right shift
   pub high_part : (x : ℕ) → shlw (32 - k) x ≡ x % 2 ^ k * 2 ^ (32 - k)
   unfolding shlw
   high_part x =
       let e : 32 ≡ k + (32 - k) = omega arith in
-      ap (λ (n : ℕ). x * 2 ^ (32 - k) % 2 ^ n) e ∙ shl_low x k (32 - k)
+      ap (λ (n : ℕ). x * 2 ^ (32 - k) % 2 ^ n) e
+      ∙ rw (mod-pow-add (x * 2 ^ (32 - k)) k (32 - k), shl-shr, mul-mod_left, add-zero)
 
   low_part : (x : ℕ) → x < 2 ^ 32 → x / 2 ^ k < 2 ^ (32 - k)
   low_part x hx =

@@ -1,6 +1,7 @@
 -- The loops over the branches of a state, as functions of the turns, and what they come to at the three sizes: at a size
 -- that is a number they compute.
-use Rattle.std.proofs.Common.{◌≡◌, ℕ, zero, suc, ◌+◌, ◌-◌, ◌*◌, ◌/◌, ◌%◌, ◌≤◌, List, length, refl, sym, subst, arith}
+use Rattle.std.proofs.Common.{◌≡◌, ℕ, zero, suc, ◌+◌, ◌-◌, ◌*◌, ◌/◌, ◌%◌, ◌≤◌, List, length, refl, subst, inl, inr, arith}
+use Rattle.std.proofs.lemmas.Bool.{cases_lt}
 use lib.Bits.{bit_xor}
 use Rattle.std.specs.Prelude.{slice_index, slice_set}
 use Rattle.sparkle.specs.Words.{ell}
@@ -9,16 +10,16 @@ use Rattle.sparkle.specs.Sparkle.{rcon, arx_box, boxes, xor_xs, xor_ys, xors, xo
 use Rattle.sparkle.proofs.Tab.{tabbed}
 
 -- what holds of 8, 12 and 16 words holds of each state
-each-size : (P : ℕ → Type 0) → P 8 → P 12 → P 16 → (n : ℕ) → 8 ≤ n → n ≤ 16 → n % 4 ≡ 0 → (q : ℕ) → n ≡ q * 4 → P n
-each-size P p8 p12 p16 n low high whole zero e = absurd (omega arith)
-each-size P p8 p12 p16 n low high whole (suc zero) e = absurd (omega arith)
-each-size P p8 p12 p16 n low high whole (suc (suc zero)) e = subst P (sym e) p8
-each-size P p8 p12 p16 n low high whole (suc (suc (suc zero))) e = subst P (sym e) p12
-each-size P p8 p12 p16 n low high whole (suc (suc (suc (suc zero)))) e = subst P (sym e) p16
-each-size P p8 p12 p16 n low high whole (suc (suc (suc (suc (suc q))))) e = absurd (omega arith)
-
 pub for_each_size : (P : ℕ → Type 0) → P 8 → P 12 → P 16 → (n : ℕ) → 8 ≤ n → n ≤ 16 → n % 4 ≡ 0 → P n
-for_each_size P p8 p12 p16 n low high whole = each-size P p8 p12 p16 n low high whole (n / 4) (omega arith)
+for_each_size P p8 p12 p16 n low high whole =
+    elim (cases_lt n 12) [
+      | inl k ↦ let e : 8 ≡ n = omega arith in subst P e p8
+      | inr k ↦
+          elim (cases_lt n 16) [
+            | inl m ↦ let e : 12 ≡ n = omega arith in subst P e p12
+            | inr m ↦ let e : 16 ≡ n = omega arith in subst P e p16
+          ]
+    ]
 
 -- the words after the boxes of the first branches
 abbrev pub box_at : ℕ → List ℕ → Branch

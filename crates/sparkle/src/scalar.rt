@@ -125,6 +125,7 @@ impl<const N: usize> State<N> {
         ensures { result.words ≡ boxes 0 self.entry.words }
     {
         let mut words = self.words;
+        // By index, as the specification counts branches: a turn reads and writes two words of one array.
         for i in 0..N / 2 {
             let b = arx_box(RCON[i], words[2 * i], words[2 * i + 1]);
             words[2 * i] = b.x;
@@ -141,6 +142,7 @@ impl<const N: usize> State<N> {
         let old = self.words;
         let mut x = 0;
         let mut y = 0;
+        // Both loops go by index, as the specification does: a branch is written at another place than it is read.
         for i in 0..N / 4 {
             x ^= old[2 * i];
             y ^= old[2 * i + 1];

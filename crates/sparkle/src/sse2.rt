@@ -1,16 +1,15 @@
 // The permutation of 16 words in four groups of four (the Rust's sse2.rs): arrays by value in place
 // of `__m128i`, and lane helpers in place of the intrinsics. The helpers are functions of their own, and no
-// one function that takes the operation: document 01 names them ("lane helpers for add, xor, shift and
-// shuffle").
+// one function that takes the operation: document 01 asks for them so ("lane helpers for add, xor, shift and
+// shuffle"), and `or4` and `and4` are of the same kind.
 //
 // The compiler makes SSE2 instructions of it where it finds the four lanes alike and no rotation, for
 // which SSE2 has no instruction. So a rotation is taken up one shift after the other, and the right
 // shift is taken of `t`, which has the high bits of y and not its low ones. The constants of a step
 // are a row that is read whole from a table, so that all lanes are alike: of a row written
 // `[rc, s, 0, 0]` in the loop the two zeros fold away, and the lanes part. And `step16` has one
-// caller, so that it is compiled into `run_rows`: with `#[inline(always)]` the loop over the steps has 14
-// shuffles in the archives in place of 12, at the same 134 instructions. docs/PERFORMANCE.md compares it
-// with other shapes, and the gate looks at the instructions.
+// caller, so that it is compiled into `run_rows`. docs/PERFORMANCE.md compares it with other shapes, and the
+// gate looks at the instructions.
 ghost use Rattle.std.specs.Prelude.{◌≡◌, ℕ, ◌+◌, ◌/◌, ◌%◌, ◌^◌, ◌<◌, ◌≤◌, bit_and, bit_or, bit_xor};
 ghost use Rattle.sparkle.specs.Words.{addw, shlw, ell};
 ghost use Rattle.sparkle.specs.Sparkle.{quarter, arx_box, step, run, sparkle_in};
@@ -55,7 +54,7 @@ struct Lanes<const FROM: u32> {
     ghost above: { Above FROM t y },
 }
 
-// The sums of the lanes, without carries out of them.
+// The sums of the lanes, without carries out of them. A lane helper for each operation: see the head.
 pub fn add4(a: [u32; 4], b: [u32; 4]) -> [u32; 4]
     ensures { result ≡ lanes2 addw a b }
 {
@@ -113,7 +112,6 @@ pub fn shuffle4(v: [u32; 4], control: usize) -> [u32; 4]
 }
 
 // A quarter of the ARX box on four branches, with the rotations A and b. The next rotation is TO.
-#[inline(always)]
 fn quarter4<const A: u32, const TO: u32>(v: Lanes<A>, b: u32, rc: [u32; 4]) -> Lanes<TO>
     requires { (0 < A) × (A < 32) × (0 < b) × (b < 32) × (32 ≤ TO + b) }
     ensures { (result.x ≡ lanes_x (quarter A b) rc v.entry.x v.entry.y) × (result.y ≡ lanes_y (quarter A b) rc v.entry.x v.entry.y) }
@@ -129,7 +127,6 @@ fn quarter4<const A: u32, const TO: u32>(v: Lanes<A>, b: u32, rc: [u32; 4]) -> L
 
 // The third quarter, whose first rotation is by 0. It is no instance of `quarter4`, which shifts by 32 - A:
 // a shift by 32 would be one by 0, and each of the three words is put together in another way.
-#[inline(always)]
 fn third4(v: Lanes<24>, rc: [u32; 4]) -> Lanes<24>
     ensures { (result.x ≡ lanes_x (quarter 0 31) rc v.x v.y) × (result.y ≡ lanes_y (quarter 0 31) rc v.x v.y) }
 {
@@ -144,7 +141,6 @@ fn third4(v: Lanes<24>, rc: [u32; 4]) -> Lanes<24>
 
 // The last quarter of the second four branches, half a word at a time: nothing shifts these y words
 // afterwards, and of a t that nobody takes up the compiler would make rotations.
-#[inline(always)]
 fn last4(v: Lanes<24>, rc: [u32; 4]) -> Lanes<0>
     ensures { (result.x ≡ lanes_x (quarter 24 16) rc v.x v.y) × (result.y ≡ lanes_y (quarter 24 16) rc v.x v.y) }
 {
@@ -159,7 +155,9 @@ fn last4(v: Lanes<24>, rc: [u32; 4]) -> Lanes<0>
     }
 }
 
-// The boxes of four branches but for their last quarter.
+// The boxes of four branches but for their last quarter. Inlined by name, and its parts are not: otherwise the
+// compiler puts the second four branches' boxes before the first's, for which the next step waits, and variant 4
+// takes 7 percent more (docs/PERFORMANCE.md).
 #[inline(always)]
 fn three_quarters(x: [u32; 4], y: [u32; 4], rc: [u32; 4]) -> Lanes<24>
     ensures { (lanes_x (quarter 24 16) rc result.x result.y ≡ lanes_x arx_box rc x y) × (lanes_y (quarter 24 16) rc result.x result.y ≡ lanes_y arx_box rc x y) }

@@ -9,7 +9,7 @@ ghost use Rattle.sparkle_bench.specs.Run.{sparkle_run, run_reply};
 
 use sparkle::scalar::StateWords;
 
-// The scalar form; a number of words that no state has counts as 16.
+// The scalar form; a number of words that no state has counts as 16. C hands over the size as a number.
 #[unsafe(no_mangle)]
 pub extern "C" fn sparkle_bench_scalar(state: &mut [u32; 16], words: u32, steps: u32)
     ensures { state.new ≡ sparkle_in (branches_of words) 0 steps state.old }
@@ -40,7 +40,7 @@ fn run_on(words: &mut [u32], size: StateWords, first: u32, count: u32)
 
 // `count` steps from the step `first` on, on a state of `size` words at the head of a slice
 // (document 02, 2026-02). Returns 0; or 1, with the words as they were, where the size is none of 8,
-// 12 and 16 or the slice is shorter.
+// 12 and 16 or the slice is shorter. C hands over the size as a number, and takes the answer as one.
 #[unsafe(no_mangle)]
 pub extern "C" fn sparkle_run(words: &mut [u32], size: u8, first: u32, count: u32) -> u8
     ensures value { result ≡ run_reply size words.old }

@@ -3,17 +3,14 @@
 use mathlib.Core.Path.{◌≡◌, refl}
 use mathlib.Core.List.{List, [], ◌∷◌}
 use Prim.Native.Nat.{ℕ}
+use Rattle.std.specs.List.{range_with_len}
 use Rattle.sparkle.specs.Words.{addw, rotr, ell}
 use Rattle.sparkle.specs.Sparkle.{rcon, quarter, arx_box, constants, boxes, xor_xs, xor_ys, xors, xor_each, feistel, linear, step, run, state, sparkle, sparkle_in}
 
--- The array whose words are their places.
-places : List ℕ
-places = 0 ∷ 1 ∷ 2 ∷ 3 ∷ 4 ∷ 5 ∷ 6 ∷ 7 ∷ 8 ∷ 9 ∷ 10 ∷ 11 ∷ 12 ∷ 13 ∷ 14 ∷ 15 ∷ []
-
--- `sparkle_in` on it. The `unfolding` line opens the whole definition, for the theorems below too.
+-- `sparkle_in` on the array whose words are their places. The `unfolding` line opens the whole definition, for the theorems below too.
 on_places : ℕ → ℕ → ℕ → List ℕ
-unfolding places addw rotr ell rcon quarter arx_box constants boxes xor_xs xor_ys xors xor_each feistel linear step run state sparkle sparkle_in
-on_places b s k = sparkle_in b s k places
+unfolding addw rotr ell rcon quarter arx_box constants boxes xor_xs xor_ys xors xor_each feistel linear step run state sparkle sparkle_in
+on_places b s k = sparkle_in b s k (range_with_len 0 16)
 
 -- 8 words: steps 2^32 - 1 and 0
 two_steps_of_8_words :

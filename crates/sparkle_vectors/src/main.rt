@@ -120,6 +120,7 @@ fn parts(rt: &impl Print, w: [u32; 16], size: StateWords, count: u32, most: u32)
         next: 0,
         left: count,
     };
+    // A turn goes past a whole part, and what is left is the run's own: no index is counted.
     while 0 < run.left {
         run = run.advance(most);
         print!(rt; "part {} {} {}", size.count(), run.next, run.left)?;

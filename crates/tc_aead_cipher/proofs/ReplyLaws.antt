@@ -9,10 +9,9 @@ use Rattle.tc_aead_cipher.specs.declared.aead_init_error.AeadInitError.{AeadInit
 use Rattle.tc_aead_cipher.specs.declared.aead_init_error.AeadInitError.TheVariants.{InvalidKeyLength, InvalidNonceLength, InvalidMacSize, NonceReuse}
 use Rattle.tc_aead_cipher.specs.declared.refusal.Refusal.{Refusal}
 use Rattle.tc_aead_cipher.specs.declared.refusal.Refusal.TheVariants.{Start, Call, Line}
-use Rattle.tc_aead_cipher.specs.Refusals.{numbers_of}
 use Rattle.tc_aead_cipher.specs.Outcome.{outcome, start_outcome, answered}
 use Rattle.tc_aead_cipher.specs.Outcome.Outcome.{no}
-use Rattle.tc_aead_cipher.specs.Reply.{reply_of, refusal_of, outcome_of}
+use Rattle.tc_aead_cipher.specs.Reply.{reply_of, outcome_of}
 
 pub reply-outcome : (r : Result ℕ AeadError) → outcome_of (reply_of (outcome r)) ≡ outcome r
 reply-outcome (Ok n) = refl
@@ -37,20 +36,6 @@ reply-answered (Ok n) = refl
 reply-answered (Err (Start x)) = reply-start (Err x)
 reply-answered (Err (Call x)) = reply-outcome (Err x)
 reply-answered (Err (Line line)) = refl
-
-pub reply-numbers : (x : Refusal) → refusal_of (reply_of (no (numbers_of x))) ≡ numbers_of x
-reply-numbers (Start (InvalidKeyLength a)) = refl
-reply-numbers (Start (InvalidNonceLength a)) = refl
-reply-numbers (Start (InvalidMacSize a)) = refl
-reply-numbers (Start NonceReuse) = refl
-reply-numbers (Call (OutputTooShort a b)) = refl
-reply-numbers (Call (CiphertextTooShort a b)) = refl
-reply-numbers (Call AuthenticationFailed) = refl
-reply-numbers (Call InputTooLong) = refl
-reply-numbers (Call NotInitialized) = refl
-reply-numbers (Call AadAfterData) = refl
-reply-numbers (Call AlreadyFinalized) = refl
-reply-numbers (Line line) = refl
 
 -- No answer has a number above 11, and no start's: 12 and what follows are not the engine's.
 pub answer-number : (r : Result ℕ AeadError) → (reply_of (outcome r)).number ≤ 11

@@ -1,10 +1,11 @@
 -- What holds of every variant: its sizes meet the specification's conditions, and fit the engine's arrays; its number
 -- names it.
 use mathlib.Core.Path.{◌≡◌, refl}
-use mathlib.Core.Bool.{Bool, true, false, cond}
+use mathlib.Core.Bool.{true, false}
 use Prim.Native.Nat.{ℕ, zero, suc, ◌≤◌}
 use native.Mathlib.Omega.{arith}
 use borrow.Author.Tests.{ne_eqb}
+use Rattle.std.proofs.lemmas.Bool.{cond_both}
 use Rattle.schwaemm.specs.Schwaemm.{Params, Sizes}
 use Rattle.schwaemm.proofs.Variants.{sizes128_128, sizes256_128, sizes192_192, sizes256_256}
 use Rattle.tc_aead_cipher.specs.Variant.{params_of, number, is_variant, variant_of}
@@ -32,12 +33,8 @@ small Schwaemm256_128 = omega arith
 small Schwaemm192_192 = omega arith
 small Schwaemm256_256 = omega arith
 
-keep-is : (b : Bool) (n : ℕ) → cond b n 0 ≤ n
-keep-is true n = omega arith
-keep-is false n = omega arith
-
 pub keep_bound : (p : Params) (phase : Phase) → keep p phase ≤ p.key
-keep_bound p phase = keep-is (opening phase) p.key
+keep_bound p phase = cond_both (opening phase) p.key 0 (λ (n : ℕ). n ≤ p.key) (λ e. omega arith) (λ e. omega arith)
 
 pub number_is_one : (v : SparkleVariant) → is_variant (number v) ≡ true
 unfolding is_variant

@@ -11,7 +11,8 @@ use super::refusal::Refusal;
 use super::variant::UnknownVariant;
 
 // Number 0 and a count, or document 01's number of a refusal and its values. `values` says how many
-// values there are, 1 for a count, since a value may be 0 itself; one that there is not is 0.
+// values there are, 1 for a count, since a value may be 0 itself; one that there is not is 0. These are the numbers
+// that C takes (docs/HOST.md).
 #[derive(Clone, Copy, Debug, PartialEq, Eq)]
 pub struct Reply {
     pub number: u8,
@@ -33,8 +34,9 @@ fn with_values<const N: usize>(number: u8, values: [usize; N]) -> Reply
     }
 }
 
-// The refusal of a call on a message, or of a length query.
-fn refusal(x: AeadError) -> Reply
+// The refusal of a call on a message, or of a length query. This and `init_refusal` are the tables of two
+// enums, each with document 01's own numbers: one function for both would be the same two matches.
+pub fn refusal(x: AeadError) -> Reply
     ensures { result ≡ reply_of (no (refusal x)) }
 {
     match x {
@@ -52,7 +54,7 @@ fn refusal(x: AeadError) -> Reply
 }
 
 // The refusal of a start.
-fn init_refusal(x: AeadInitError) -> Reply
+pub fn init_refusal(x: AeadInitError) -> Reply
     ensures { result ≡ reply_of (no (init_refusal x)) }
 {
     match x {

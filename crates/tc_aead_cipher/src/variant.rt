@@ -95,7 +95,7 @@ impl TryFrom<u8> for SparkleVariant {
     }
 }
 
-// Whether a variant has the number.
+// Whether a variant has the number. This and `variant_of` cannot fail, for callers who want no `Result`.
 #[tactic(auto, unfolding(crate::specs::Variant::is_variant))]
 pub fn is_variant(n: u8) -> bool
     ensures { result ≡ is_variant n }

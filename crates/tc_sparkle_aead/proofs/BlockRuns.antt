@@ -1,9 +1,11 @@
 -- What holds in the loop over blocks, at any sizes: the blocks that are done have led to the state, and the output begins
 -- with what they became where it is written.
-use Rattle.std.proofs.Common.{◌≡◌, ℕ, ◌+◌, ◌-◌, ◌*◌, ◌/◌, ◌<◌, ◌≤◌, Bool, true, false, cond, eqb, List, [], ◌∷◌, ◌++◌, length, take, drop, sym, refl, ap, ◌∙◌, subst, ap₂, inl, inr, append-nil, mul-le-mul_right, add-mul, one-mul, zero-mul, arith, length-append, length-drop, length-take-le, drop-drop, take_at, drop_at}
+use Rattle.std.proofs.Common.{◌≡◌, ℕ, ◌+◌, ◌*◌, ◌/◌, ◌≤◌, Bool, true, false, cond, eqb, List, [], ◌∷◌, ◌++◌, length, take, drop, sym, refl, ap, ◌∙◌, subst, ap₂, inl, inr, append-nil, mul-le-mul_right, add-mul, one-mul, zero-mul, arith, take_at}
 use types.Run.{OneOf}
 use denote.Enum.Declared.{tag_of}
-use lib.Seq.{drop-append-add, paste}
+use lib.Seq.{paste}
+use Rattle.std.proofs.lemmas.Slice.{drop-append-drop}
+use Rattle.tc_aead_cipher.proofs.CheckLaws.{cond_same}
 use Rattle.tc_aead_cipher.specs.contracts.variant.SparkleVariant.{the_type}
 use Rattle.tc_aead_cipher.specs.Variant.{params_of}
 use Rattle.tc_aead_cipher.specs.declared.variant.SparkleVariant.{SparkleVariant}
@@ -17,18 +19,6 @@ use Rattle.schwaemm.proofs.Cut.{after_add, given_add, length-given}
 use Rattle.schwaemm.proofs.States.{state_length, length-mix, length-crypt, words-permute}
 use Rattle.tc_sparkle_aead.specs.Message.{plain_by, mask_of, xor_block, wide_params, block_step, blocks_out}
 use Rattle.tc_sparkle_aead.proofs.MixLaws.{crypt-state, mix-block}
-
--- the bytes held and those that come, of a buffer that holds enough
-pub length-stream : (buffer input : List ℕ) (held n : ℕ) → length buffer ≡ 64 → held ≤ 64 → n ≤ held + length input
-    → n ≤ length (take held buffer ++ input)
-length-stream buffer input held n hb hh hn =
-    simp length-append (omega (arith, length-take-le held buffer (omega arith)))
-
--- past the held bytes the stream is the input
-pub past-held : (held input : List ℕ) (pos : ℕ) → length held ≤ pos → drop (pos - length held) input ≡ drop pos (held ++ input)
-past-held held input pos gone =
-    let at : length held + (pos - length held) ≡ pos = omega arith in
-    sym (drop-append-add held input (pos - length held)) ∙ ap (λ (k : ℕ). drop k (held ++ input)) at
 
 -- A block makes a state of a state.
 module _ (p : Params) where
@@ -47,14 +37,6 @@ module _ (p : Params) where
         length-given p.rate (block_step p big opens) (crypt p) (λ s. length s ≡ state_length p) (λ s b k. length-step s b)
         (λ s b hs hb. length-crypt p z s hs b ∙ omega arith)
 
--- What is written keeps the output's length.
-pub length-blocks_out : (p : Params) (big opens write : Bool) (n : ℕ) (s t out : List ℕ)
-    → length (given p.rate (block_step p big opens) (crypt p) n s t) ≡ n * p.rate → (write ≡ true → n * p.rate ≤ length out)
-    → length (blocks_out p big opens write n s t out) ≡ length out
-unfolding blocks_out
-length-blocks_out p big opens false n s t out e room = refl
-length-blocks_out p big opens true n s t out e room = simp (length-append, length-drop) (omega (arith, e, room refl))
-
 -- `s₀` is the state where the loop begins, `t` the input, `out₀` the output then; v and out are those after `done` blocks.
 pub record Run (p : Params) (big opens write : Bool) (s₀ t out₀ out v : List ℕ) (done : ℕ) : Type 0 where
   pub state : v ≡ after p.rate (block_step p big opens) done s₀ t
@@ -63,14 +45,10 @@ pub record Run (p : Params) (big opens write : Bool) (s₀ t out₀ out v : List
   pub output : out ≡ blocks_out p big opens write done s₀ t out₀
 
 module _ (p : Params) (big opens write : Bool) (s₀ t out₀ : List ℕ) where
-  nothing_written : (b : Bool) → out₀ ≡ cond b out₀ out₀
-  nothing_written true = refl
-  nothing_written false = refl
-
   pub run-start : length s₀ ≡ state_length p → Words s₀ → Run p big opens write s₀ t out₀ out₀ s₀ 0
   unfolding after given blocks_out
   run-start hs ws =
-      record { state = refl; whole = hs; words = ws; output = rw (zero-mul p.rate) (nothing_written write) }
+      record { state = refl; whole = hs; words = ws; output = rw (zero-mul p.rate) (sym (cond_same write)) }
 
   module _ (z : Sizes p) (hs : length s₀ ≡ state_length p) (count : ℕ) (enough : count * p.rate ≤ length t)
       (room : write ≡ true → count * p.rate ≤ length out₀)
@@ -113,8 +91,7 @@ module _ (p : Params) (big opens write : Bool) (s₀ t out₀ : List ℕ) where
           let old : out ≡ before ++ drop pos out₀ = e ∙ ap (λ (k : ℕ). before ++ drop k out₀) (sym ep) in
           let front : take pos out ≡ before = ap (take pos) old ∙ take_at before (drop pos out₀) pos at in
           let behind : drop (pos + p.rate) out ≡ drop (pos + p.rate) out₀ =
-          sym (drop-drop p.rate pos out) ∙ ap (λ (x : List ℕ). drop p.rate (drop pos x)) old
-          ∙ ap (drop p.rate) (drop_at before (drop pos out₀) pos at) ∙ drop-drop p.rate pos out₀ in
+          ap (drop (pos + p.rate)) old ∙ drop-append-drop pos out₀ before (pos + p.rate) (omega arith) at in
           let end : (done + 1) * p.rate ≡ pos + p.rate = rw (add-mul, one-mul, ← ep) refl in
           f ∙ rw (
             en,
@@ -137,11 +114,6 @@ module _ (p : Params) (big opens write : Bool) (s₀ t out₀ : List ℕ) where
             words = subst Words (sym the_next) (words-block_step p big opens v (take p.rate (drop pos t)));
             output = turn-output write refl r.output e-out;
           }
-
--- the next block is one of the `count`
-pub run_fits : (done count rate : ℕ) → done < count → done * rate + rate ≤ count * rate
-run_fits done count rate h =
-    omega (arith, mul-le-mul_right {m = done + 1} {n = count} rate (omega arith), add-mul done 1 rate, one-mul rate)
 
 -- the two variants with a state of 12 words are told apart by the rate
 pub wide_variant : (v : SparkleVariant) → OneOf (1 ∷ (2 ∷ [])) (tag_of the_type v) → (r : ℕ) → r ≡ (params_of v).rate

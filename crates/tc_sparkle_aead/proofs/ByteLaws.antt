@@ -1,7 +1,8 @@
 -- Bytes that are copied into an array of zeros, also a second part behind a first; words that are written one behind the
 -- other, and a word that is read.
-use Rattle.std.proofs.Common.{◌≡◌, ℕ, add-zero, get_or-drop, ◌+◌, ◌-◌, ◌*◌, ◌^◌, ◌<◌, ◌≤◌, min, List, [], ◌∷◌, ◌++◌, length, get_or, take, drop, replicate, sym, refl, ap, ◌∙◌, ap₂, append_assoc, arith, length-append, length-drop, length-take-le, take_at, drop_at, take_all, append-nil, drop-drop, drop_of_length-le}
-use Rattle.std.proofs.lemmas.List.{drop-replicate, take_more, take-append-le, drop-append-le}
+use Rattle.std.proofs.Common.{◌≡◌, ℕ, add-zero, get_or-drop, ◌+◌, ◌-◌, ◌*◌, ◌^◌, ◌<◌, ◌≤◌, min, List, [], ◌∷◌, ◌++◌, length, get_or, take, drop, replicate, sym, refl, ap, ◌∙◌, ap₂, append_assoc, arith, length-append, length-drop, length-take-le, take_at, drop_at, take_all, take-take, append-nil, drop-drop, drop_of_length-le}
+use Rattle.std.proofs.lemmas.List.{drop-replicate, take_rest, take_more, take-append-le, drop-append-le}
+use Rattle.std.proofs.lemmas.List.Edits.{paste_all}
 use Rattle.std.proofs.lemmas.Bool.{cases_lt}
 use mathlib.Core.Logic.{◌⊎◌, inl, inr}
 use Rattle.std.proofs.Math.Seq.{paste, drop-append-add, take-append-add}
@@ -24,11 +25,15 @@ put_behind m a b n k ha hb h =
     ∙ ap (λ (v : List ℕ). a ++ (b ++ v)) (drop-replicate {X = ℕ} k (m - n) 0)
     ∙ sym (append_assoc a b (replicate {A = ℕ} (m - n - k) 0)))
 
+-- past the held bytes the stream is the input
+pub past-held : (held input : List ℕ) (pos : ℕ) → length held ≤ pos → drop (pos - length held) input ≡ drop pos (held ++ input)
+past-held held input pos gone =
+    let at : length held + (pos - length held) ≡ pos = omega arith in
+    sym (drop-append-add held input (pos - length held)) ∙ ap (λ (k : ℕ). drop k (held ++ input)) at
+
 module _ (n pos : ℕ) (held input : List ℕ) where
   pub stream_behind : length held ≤ pos → take n (drop (pos - length held) input) ≡ take n (drop pos (held ++ input))
-  stream_behind h =
-      let e : length held + (pos - length held) ≡ pos = omega arith in
-      ap (take n) (sym (drop-append-add held input (pos - length held)) ∙ ap (λ (k : ℕ). drop k (held ++ input)) e)
+  stream_behind h = ap (take n) (past-held held input pos h)
 
   -- a first part of the held bytes, as many as are wanted, and what is wanted behind them
   seam : (front : ℕ) → pos ≤ length held → front ≡ min n (length held - pos) → (n < length held - pos) ⊎ (length held - pos ≤ n)
@@ -74,18 +79,24 @@ bytes_over w d e h =
     e ∙ ap (◌++◌ (to_bytes w)) (drop_of_length-le d {i = length (to_bytes w)} (omega (arith, length-to_bytes w)))
     ∙ append-nil (to_bytes w)
 
--- the bytes of n words written from a place on
-pub words_over : (out words : List ℕ) (pos n : ℕ) {ys : List ℕ} → ys ≡ written (to_bytes (take n words)) (take (length out - pos) (drop pos out)) → n ≤ length words → pos + n * 4 ≤ length out
-    → put_mid pos (length out - pos) out ys ≡ paste out pos (to_bytes words) (n * 4)
+-- a part that was lent from `at` on, when it comes back
+pub lent_back : (l r : List ℕ) (at : ℕ) → take at l ++ (r ++ drop (length l - at) (drop at l)) ≡ take at l ++ r
+lent_back l r at =
+    ap (λ (x : List ℕ). take at l ++ (r ++ x)) (drop_of_length-le (drop at l) {i = length l - at} (simp length-drop (omega arith)))
+    ∙ ap (◌++◌ (take at l)) (append-nil r)
+
+-- the bytes of words written from a place on
+pub words_over : (out words : List ℕ) (pos : ℕ) {ys : List ℕ} → ys ≡ written (to_bytes words) (take (length out - pos) (drop pos out)) → pos + length words * 4 ≤ length out
+    → put_mid pos (length out - pos) out ys ≡ paste out pos (to_bytes words) (length words * 4)
 unfolding written
-words_over out words pos n e h k =
-    let b = to_bytes (take n words) in
-    let l : length b ≡ n * 4 = omega (arith, length-to_bytes (take n words), length-take-le n words h) in
-    let rest = length-drop pos out in
-    let none : drop (length out - pos) (drop pos out) ≡ [] = drop_of_length-le (drop pos out) {i = length out - pos} (omega arith) in
-    let all = take_all (length out - pos) (drop pos out) (omega arith) in
-    rw (e, all, none, l) (ap (λ (r : List ℕ). take pos out ++ r) (append-nil (b ++ drop (n * 4) (drop pos out)) ∙ ap₂ (λ (u v : List ℕ). u ++ v) (sym (to_bytes-take n words)) (drop-drop (n * 4) pos out))
-    ∙ sym (append_assoc (take pos out) (take (n * 4) (to_bytes words)) (drop (pos + n * 4) out)))
+words_over out words pos e h =
+    lent_back out _ pos
+    ∙ rw (e, take_rest out pos, ← length-to_bytes words, drop-drop, paste_all out pos (to_bytes words) (length (to_bytes words)) refl) refl
+
+-- the bytes of the first n words, written from a place on
+pub words_taken : (out words : List ℕ) (pos n : ℕ) → n ≤ length words → paste out pos (to_bytes (take n words)) (length (take n words) * 4) ≡ paste out pos (to_bytes words) (n * 4)
+words_taken out words pos n h =
+    rw (length-take-le n words h, ← to_bytes-take n words, take-take (n * 4) (n * 4) (to_bytes words) (omega arith))
 
 -- a part that is read, and what is behind its start
 pub part_read : (b r : List ℕ) (pos n : ℕ) → pos + n ≤ length b → take (length (take (pos + n - pos) (drop pos b))) r ≡ take (pos + n - pos) (drop pos b) → take n r ≡ take n (drop pos b)
@@ -94,15 +105,10 @@ part_read b r pos n h e =
     let rest = length-drop pos b in
     rw (length-take-le n (drop pos b) (omega arith)) at rw size at e
 
--- a part of the output that n bytes of a list are copied to, and its front
+-- a part of the output that n bytes of a list are copied to; from 0 on it is the front
 pub part_paste : (d s : List ℕ) (at n k : ℕ) {ys : List ℕ} → ys ≡ take n s → k ≡ n → put_mid at k d ys ≡ paste d at s n
 part_paste d s at n k e h =
     rw (e, h) (ap (λ (r : List ℕ). take at d ++ (take n s ++ r)) (drop-drop n at d) ∙ sym (append_assoc (take at d) (take n s) (drop (at + n) d)))
-
-pub front_paste : (d s : List ℕ) (n : ℕ) {ys : List ℕ} → ys ≡ take n s → ys ++ drop n d ≡ paste d 0 s n
-front_paste d s n e =
-    let front : 0 + n ≡ n = omega arith in
-    rw (e, front) refl
 
 -- word k, from its four bytes
 first_word : (b : List ℕ) → 3 < length b → get_or (to_words b) 0 0 ≡ get_or b 0 0 + get_or b 1 0 * 2 ^ 8 + get_or b 2 0 * 2 ^ 16 + get_or b 3 0 * 2 ^ 24

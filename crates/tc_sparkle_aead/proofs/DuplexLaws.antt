@@ -1,8 +1,8 @@
 -- A state of so many words, some of them the rate's: its sizes in words, and the words that are permuted when a block is
 -- taken up, one by one.
-use Rattle.std.proofs.Common.{◌≡◌, ℕ, ◌+◌, ◌-◌, ◌*◌, ◌/◌, ◌%◌, ◌<◌, ◌≤◌, Bool, true, false, ltb, cond, List, [], ◌∷◌, ◌++◌, length, get_or, take, drop, set, sym, refl, ap, ◌∙◌, ap₂, arith, suc, zero, length-append, length-take, length-drop, length-take-le, take_all, take_at, mod-eq_of_lt}
+use Rattle.std.proofs.Common.{◌≡◌, ℕ, ◌+◌, ◌-◌, ◌*◌, ◌/◌, ◌%◌, ◌<◌, ◌≤◌, Bool, true, false, ltb, cond, List, [], ◌∷◌, ◌++◌, length, get_or, take, drop, set, sym, refl, ap, ◌∙◌, ap₂, arith, suc, zero, inl, inr, length-append, length-take, length-drop, length-take-le, take_all, take_at, mod-eq_of_lt}
 use Rattle.std.proofs.Math.Nat.{mod-eq-sub-mod}
-use Rattle.std.proofs.lemmas.Bool.{ltb-true, ltb-false, lt-ltb, le-ltb}
+use Rattle.std.proofs.lemmas.Bool.{ltb-true, ltb-false, cases_lt}
 use Rattle.std.proofs.lemmas.List.{ext_get_or, get_or_append_left, get_or-append_right, get_or-take, get_or-drop}
 use lib.Bits.{bit_xor, bit_and}
 use Rattle.sparkle.specs.Sparkle.{xors}
@@ -12,25 +12,15 @@ use Rattle.schwaemm.proofs.Xors.{xors-at}
 use Rattle.tc_sparkle_aead.proofs.Fill.{laid}
 use Rattle.tc_sparkle_aead.specs.Message.{Fits, sized, state_in, put_state, masked, xor_last, xor_block}
 
--- a number that goes by a comparison
-pub where_below : (i h a b x : ℕ) → i < h → x ≡ a → x ≡ cond (ltb i h) a b
-where_below i h a b x l e = e ∙ sym (ap (λ (t : Bool). cond t a b) (lt-ltb i h l))
-
-pub where_above : (i h a b x : ℕ) → h ≤ i → x ≡ b → x ≡ cond (ltb i h) a b
-where_above i h a b x l e = e ∙ sym (ap (λ (t : Bool). cond t a b) (le-ltb i h l))
-
 -- a list twice
-twice-by : (b : Bool) (q : List ℕ) (n i : ℕ) → length q ≡ n → ltb i n ≡ b → i < n + n → get_or (q ++ q) i 0 ≡ get_or q (i % n) 0
-twice-by true q n i e h k =
-    let l = ltb-true i n h in
-    get_or_append_left q q 0 i (omega arith) ∙ ap (λ (m : ℕ). get_or q m 0) (sym (mod-eq_of_lt l))
-twice-by false q n i e h k =
-    let l = ltb-false i n h in
-    let m : i - n < n = omega arith in
-    get_or-append_right q q n i 0 e l ∙ ap (λ (m : ℕ). get_or q m 0) (sym (mod-eq-sub-mod l ∙ mod-eq_of_lt m))
-
 pub twice-at : (q : List ℕ) (n i : ℕ) → length q ≡ n → i < n + n → get_or (q ++ q) i 0 ≡ get_or q (i % n) 0
-twice-at q n i e k = twice-by (ltb i n) q n i e refl k
+twice-at q n i e k =
+    elim (cases_lt i n) [
+      | inl l ↦ get_or_append_left q q 0 i (omega arith) ∙ ap (λ (m : ℕ). get_or q m 0) (sym (mod-eq_of_lt l))
+      | inr l ↦
+          let m : i - n < n = omega arith in
+          get_or-append_right q q n i 0 e l ∙ ap (λ (m : ℕ). get_or q m 0) (sym (mod-eq-sub-mod l ∙ mod-eq_of_lt m))
+    ]
 
 -- eight words, each xored with a list's
 pub xors_by : (u v r : List ℕ) → length r ≡ 8 → length v ≡ 8 → 8 ≤ length u

@@ -8,7 +8,9 @@ use Rattle.tc_aead_cipher.specs.declared.phase.Direction.TheVariants.{Encrypt, D
 use Rattle.tc_aead_cipher.specs.declared.phase.Phase.{Phase}
 use Rattle.tc_aead_cipher.specs.declared.phase.Phase.TheVariants.{Uninitialized, Init, Aad, Data, Final}
 use Rattle.tc_aead_cipher.specs.declared.aead_error.AeadError.{AeadError}
+use Rattle.tc_aead_cipher.specs.declared.aead_error.AeadError.TheVariants.{AuthenticationFailed}
 use Rattle.tc_sparkle_aead.specs.declared.message.Point.{Point}
+use Rattle.tc_sparkle_aead.specs.declared.message.Mac.{Mac}
 use Rattle.tc_sparkle_aead.specs.declared.message.End.{End}
 use Rattle.tc_sparkle_aead.specs.declared.engine.Pair.{Pair}
 use Rattle.tc_sparkle_aead.specs.declared.engine.Done.{Done}
@@ -129,18 +131,18 @@ module _ {e : SparkleEngine} {at : Point} {out : List ℕ} {n : ℕ} {opens : Bo
   parts_are f = ap (f e.variant e.pair) t.begins ∙ sym (begin_parts e f e.current.phase)
 
   -- an engine that has ended, by what the end gave
-  ended_is : (answer : Result ℕ AeadError) → answer ≡ Ok n → (first : ℕ)
+  ended_is : (answer : Mac → Result ℕ AeadError) (first : ℕ)
       → first ≡ begin_steps (params_of e.variant) e.current.phase → (x : Point) (d : Direction) (end end' : End)
       → end ≡ end'
-      → finish (at_point e x first) (answered answer end.mac) d end.mac end.steps
-      ≡ finish (begin_data e) (answered (Ok n) end'.mac) d end'.mac end'.steps
+      → finish (at_point e x first) (answer end.mac) d end.mac end.steps
+      ≡ finish (begin_data e) (answer end'.mac) d end'.mac end'.steps
   unfolding finish begin_data
-  ended_is answer accepted first ef x d end end' ee =
+  ended_is answer first ef x d end end' ee =
       let begins =
       ap (λ (k : ℕ). final_engine (at_point e x k) d end'.mac end'.steps) ef
       ∙ begin_ended e e.current.phase x d end'.mac end'.steps in
-      ap (λ (y : End). finish (at_point e x first) (answered answer y.mac) d y.mac y.steps) ee
-      ∙ (λ i. record { answer = answered (accepted i) end'.mac; engine = begins i })
+      ap (λ (y : End). finish (at_point e x first) (answer y.mac) d y.mac y.steps) ee
+      ∙ (λ i. record { answer = answer end'.mac; engine = begins i })
 
   -- a sealing
   module _ (seals : opens ≡ false) where
@@ -155,16 +157,16 @@ module _ {e : SparkleEngine} {at : Point} {out : List ℕ} {n : ℕ} {opens : Bo
           sealing-room (params_of e.variant) e.current.phase e.current.held (length out) n t.passed sealing,
         )
 
-    pub final_sealed : (answer : Result ℕ AeadError) → answer ≡ Ok n → (first : ℕ)
+    pub final_sealed : (first : ℕ)
         → first ≡ begin_steps (params_of e.variant) e.current.phase → (x : Point) (end : End)
         → end ≡ seal_end (params_of e.variant) (current_key (params_of e.variant) e.pair) at → (done : Done (Result ℕ AeadError))
-        → done ≡ finish (at_point e x first) (answered answer end.mac) Encrypt end.mac end.steps
+        → done ≡ finish (at_point e x first) (Ok n) Encrypt end.mac end.steps
         → done ≡ do_final e out
-    unfolding do_final seal_final finish readable
-    final_sealed answer accepted first ef x end ee done ed =
+    unfolding do_final seal_final finish
+    final_sealed first ef x end ee done ed =
         rw (t.passed, sealing)
         (ed
-        ∙ ended_is answer accepted first ef x Encrypt end (seal_of (begin_data e).variant (begin_data e).pair (begin_data e).current)
+        ∙ ended_is (λ m. Ok n) first ef x Encrypt end (seal_of (begin_data e).variant (begin_data e).pair (begin_data e).current)
         (ee ∙ parts_are seal_of))
 
     pub final_sealed_out : (out₁ : List ℕ)
@@ -190,18 +192,21 @@ module _ {e : SparkleEngine} {at : Point} {out : List ℕ} {n : ℕ} {opens : Bo
           opening-room (params_of e.variant) e.current.phase e.current.held (length out) n t.passed opened,
         )
 
-    pub final_opened : (answer : Result ℕ AeadError) → answer ≡ Ok n → (first : ℕ)
+    pub final_opened : (first : ℕ)
         → first ≡ begin_steps (params_of e.variant) e.current.phase → (x : Point) (end : End)
         → end ≡ open_end (params_of e.variant) (current_key (params_of e.variant) e.pair) at
-        → (done : Done (Result ℕ AeadError)) → done ≡ finish (at_point e x first) (answered answer end.mac) Decrypt end.mac end.steps
+        → (readable : Bool) → end.mac.readable ≡ readable → (done : Done (Result ℕ AeadError))
+        → done ≡ finish (at_point e x first) (cond readable (Ok n) (Err AuthenticationFailed)) Decrypt end.mac end.steps
         → done ≡ do_final e out
     unfolding do_final open_final
-    final_opened answer accepted first ef x end ee done ed =
+    final_opened first ef x end ee readable re done ed =
         let r = open_of (begin_data e).variant (begin_data e).pair (begin_data e).current in
         let p = params_of (begin_data e).variant in
         let right = tag_matches p (current_key p (begin_data e).pair) (begin_data e).current in
         rw (t.passed, opened)
-        (ed ∙ ended_is answer accepted first ef x Decrypt end r (ee ∙ parts_are open_of)
+        (ed
+        ∙ ap (λ (b : Bool). finish (at_point e x first) (cond b (Ok n) (Err AuthenticationFailed)) Decrypt end.mac end.steps) (sym re)
+        ∙ ended_is (answered (Ok n)) first ef x Decrypt end r (ee ∙ parts_are open_of)
         ∙ open_end_by_lem right (begin_data e) n r refl)
 
     pub final_opened_out : (out₁ : List ℕ) → out₁ ≡ written (open_out (params_of e.variant) (current_key (params_of e.variant) e.pair) at) out → out₁ ≡ do_final_out e out

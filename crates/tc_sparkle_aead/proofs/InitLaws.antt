@@ -1,8 +1,10 @@
 -- A start: when a pair repeats, and the engine after a start, from its parts.
-use Rattle.std.proofs.Common.{◌&&◌, ◌≡◌, ℕ, ◌+◌, ◌%◌, ◌^◌, ◌≤◌, Bool, true, false, cond, List, length, take, sym, refl, ap, ◌∙◌, arith, length-take-le, Result, Ok, Err}
+use Rattle.std.proofs.Common.{◌&&◌, ◌≡◌, ℕ, ◌+◌, ◌%◌, ◌^◌, ◌≤◌, Bool, true, false, List, length, take, sym, refl, ap, ◌∙◌, arith, length-take-le, Result, Ok, Err}
 use Rattle.schwaemm.specs.Bytes.{same}
 use Rattle.schwaemm.specs.Schwaemm.{Params}
 use Rattle.schwaemm.proofs.RoundTrip.{equal_of_same}
+use Rattle.tc_aead_cipher.proofs.CheckLaws.{cond_same}
+use Rattle.std.proofs.lemmas.Bool.Decides.{nat_tests}
 use Rattle.tc_aead_cipher.specs.declared.phase.Direction.{Direction}
 use Rattle.tc_aead_cipher.specs.declared.aead_init_error.AeadInitError.{AeadInitError}
 use Rattle.tc_sparkle_aead.specs.declared.message.Point.{Point}
@@ -24,21 +26,13 @@ differ-by u v false e h = e
 lengths_differ : (u v : List ℕ) → (length u ≡ length v → ⊥) → same u v ≡ false
 lengths_differ u v h = differ-by u v (same u v) refl h
 
-cond_false : (t : Bool) → false ≡ cond t false false
-cond_false true = refl
-cond_false false = refl
-
-both : (a b : Bool) → a && b ≡ cond a b false
-both true b = refl
-both false b = refl
-
 -- a pair repeats where there is one and both its parts do
 module _ (p : Params) (pair : Pair) (key nonce : List ℕ) where
   pub repeats_key : p.key ≤ length pair.key → (length key ≡ p.key → ⊥) → false ≡ repeats p pair key nonce
   unfolding repeats
   repeats_key h wrong =
       rw (lengths_differ (take p.key pair.key) key (λ e. wrong (omega (arith, length-take-le p.key pair.key h))))
-      (cond_false pair.loaded)
+      (sym (cond_same pair.loaded))
 
   pub repeats_nonce : p.rate ≤ length pair.nonce → (length nonce ≡ p.rate → ⊥) → false ≡ repeats p pair key nonce
   unfolding repeats
@@ -46,8 +40,8 @@ module _ (p : Params) (pair : Pair) (key nonce : List ℕ) where
       rw (
         lengths_differ (take p.rate pair.nonce) nonce
             (λ e. wrong (omega (arith, length-take-le p.rate pair.nonce h))),
-        ← cond_false (same (take p.key pair.key) key),
-      ) (cond_false pair.loaded)
+        cond_same (same (take p.key pair.key) key),
+      ) (sym (cond_same pair.loaded))
 
   pub repeats_none : pair.loaded ≡ false → false ≡ repeats p pair key nonce
   unfolding repeats
@@ -56,7 +50,7 @@ module _ (p : Params) (pair : Pair) (key nonce : List ℕ) where
   pub repeats_pair : (k n : ℕ) (a b : Bool) → k ≡ p.key → n ≡ p.rate → pair.loaded ≡ true
       → a ≡ same (take k pair.key) key → b ≡ same (take n pair.nonce) nonce → a && b ≡ repeats p pair key nonce
   unfolding repeats
-  repeats_pair k n a b ek en loaded ea eb = rw (loaded, ea, eb, ek, en) (both (same (take p.key pair.key) key) (same (take p.rate pair.nonce) nonce))
+  repeats_pair k n a b ek en loaded ea eb = rw (loaded, ea, eb, ek, en) (grind (arith, nat_tests))
 
 -- the engine after a start that is taken
 pub started_is : (e : SparkleEngine) (d : Direction) (key nonce header : List ℕ) (at point : Point) (pair : Pair) (mac : Mac)

@@ -6,7 +6,8 @@ use lib.Seq.{drop-nil}
 use Rattle.schwaemm.specs.Bytes.{if_empty, same}
 use Rattle.schwaemm.specs.Blocks.{ready, after, given, held}
 use Rattle.schwaemm.specs.Schwaemm.{Params, Sizes, crypt, mix_last, leading, prepared, opening, message_block, before_last, last_block, message, crypted, tag_of, decrypt, tag, body, received, verified}
-use Rattle.schwaemm.proofs.Cut.{ready-before, rest_above, after-take, given-take, length-held, drop-take}
+use Rattle.schwaemm.proofs.Cut.{ready-before, rest_above, after-take, given-take, length-held}
+use Rattle.std.proofs.lemmas.List.{drop-take}
 use Rattle.schwaemm.proofs.States.{state_length, length-message_block, length-prepared}
 use Rattle.schwaemm.proofs.RoundTrip.{length-last_block, leading_bound, tag_of_opened}
 use Rattle.tc_aead_cipher.specs.declared.phase.Direction.TheVariants.{Decrypt}

@@ -1,9 +1,9 @@
 -- The state in the engine's array of words, and a list in an array: what is put in is what is found, and the rest of the
 -- array stays as it was.
-use Rattle.std.proofs.Common.{◌≡◌, ℕ, zero, suc, ◌+◌, ◌-◌, ◌^◌, ◌<◌, ◌≤◌, List, [], ◌∷◌, ◌++◌, length, get_or, take, drop, set, replicate, refl, ap, ◌∙◌, append_assoc, append-nil, arith, length-append, length-set, take-append-drop, drop_of_length-le, length-take-le, take_all, take-take, take_at, drop_at}
+use Rattle.std.proofs.Common.{◌≡◌, ℕ, ◌+◌, ◌-◌, ◌^◌, ◌<◌, ◌≤◌, List, ◌++◌, length, get_or, take, drop, set, replicate, ap, ◌∙◌, append_assoc, append-nil, arith, length-append, length-set, take-append-drop, drop_of_length-le, length-take-le, take_all, take-take, take_at, drop_at}
 use lib.Bits.{xor_lt, xor_zero_r}
 use lib.ListN.{length-replicate, replicate-append-replicate}
-use lib.Seq.{take-append-le}
+use lib.Seq.{take-append-le, set-get_or}
 use Rattle.sparkle.specs.Words.{Words}
 use Rattle.sparkle.proofs.Below.{below_at, below_set, below-take}
 use Rattle.schwaemm.specs.Schwaemm.{Params, Sizes}
@@ -28,12 +28,6 @@ in_array-zeros n k l e =
     ∙ rw (← replicate-append-replicate {A = ℕ} k (length l) 0, ← append_assoc l (replicate k 0) (replicate (length l) 0))
     (take_at (l ++ replicate k 0) (replicate (length l) 0) n
     (simp (length-append, length-replicate) (omega arith)))
-
--- an element set to itself
-set_own : (s : List ℕ) (i : ℕ) → set s i (get_or s i 0) ≡ s
-set_own [] i = refl
-set_own (x ∷ s) zero = refl
-set_own (x ∷ s) (suc i) = ap (◌∷◌ x) (set_own s i)
 
 module _ (p : Params) where
   pub state-length : (words : List ℕ) → state_length p ≤ length words → length (state_in p words) ≡ state_length p
@@ -78,7 +72,7 @@ module _ (p : Params) where
   pub xor_last-none : (s : List ℕ) → xor_last p 0 s ≡ s
   unfolding xor_last
   xor_last-none s =
-      ap (set s (state_length p - 1)) (xor_zero_r (get_or s (state_length p - 1) 0)) ∙ set_own s (state_length p - 1)
+      ap (set s (state_length p - 1)) (xor_zero_r (get_or s (state_length p - 1) 0)) ∙ set-get_or s (state_length p - 1) 0
 
   module _ (h : Sizes p) (f : Small p) where
     pub state-fits : state_length p ≤ 16

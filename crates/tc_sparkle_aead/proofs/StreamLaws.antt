@@ -1,6 +1,6 @@
 -- Held bytes and input as one stream: the blocks with held bytes in them are gathered and taken up first, then those that
 -- the input has whole.
-use Rattle.std.proofs.Common.{◌≡◌, ℕ, ◌+◌, ◌-◌, ◌*◌, ◌<◌, ◌≤◌, min, Bool, true, false, cond, List, [], ◌++◌, length, take, drop, sym, refl, ap, ◌∙◌, ap₂, append_assoc, append-nil, mul-le-mul_right, add-mul, arith, length-drop, drop_of_length-le, length-append, length-take-le, take_all, take-take, drop-drop, take_at, drop_at}
+use Rattle.std.proofs.Common.{◌≡◌, ℕ, ◌+◌, ◌-◌, ◌*◌, ◌<◌, ◌≤◌, min, Bool, true, false, cond, List, [], ◌++◌, length, take, drop, sym, refl, ap, ◌∙◌, ap₂, append_assoc, mul-le-mul_right, add-mul, arith, length-append, length-take-le, take-take, drop-drop, take_at, drop_at}
 use Rattle.std.proofs.lemmas.List.{nil_from_length}
 use Rattle.std.specs.Int.{div_ceil}
 use Rattle.schwaemm.specs.Blocks.{after, given}
@@ -13,16 +13,8 @@ use Rattle.tc_aead_cipher.specs.declared.variant.SparkleVariant.TheVariants.{Sch
 use Rattle.tc_aead_cipher.proofs.VariantLaws.{sizes, small}
 use Rattle.tc_sparkle_aead.specs.Message.{Held, in_array, state_in, put_state, xor_last, block_step, blocks_out, held_blocks}
 use Rattle.tc_sparkle_aead.proofs.StateLaws.{take-in_array, length-state_in, state_put, put_put, xor_last-none}
-use Rattle.tc_sparkle_aead.proofs.BlockRuns.{past-held, length-step, length-written, length-blocks_out}
-
--- a slice that is lent from `at` on, and a part that was lent when it comes back
-pub lent-from : (l : List ℕ) (at : ℕ) → at ≤ length l → take (length l - at) (drop at l) ≡ drop at l
-lent-from l at h = take_all (length l - at) (drop at l) (simp length-drop (omega arith))
-
-pub lent_back : (l r : List ℕ) (at : ℕ) → take at l ++ (r ++ drop (length l - at) (drop at l)) ≡ take at l ++ r
-lent_back l r at =
-    ap (λ (x : List ℕ). take at l ++ (r ++ x)) (drop_of_length-le (drop at l) {i = length l - at} (simp length-drop (omega arith)))
-    ∙ ap (◌++◌ (take at l)) (append-nil r)
+use Rattle.tc_sparkle_aead.proofs.ByteLaws.{past-held}
+use Rattle.tc_sparkle_aead.proofs.BlockRuns.{length-step, length-written}
 
 pub held_first : (v : SparkleVariant) (held count first : ℕ) → held ≤ (params_of v).rate + (params_of v).key
     → first ≡ held_blocks (params_of v) held count → Held (params_of v) held count first
@@ -61,18 +53,6 @@ module _ (v : SparkleVariant) (opens w : Bool) (words held input : List ℕ) (co
   output-none o out₀ none e =
       let h : held ≡ [] = nil_from_length held (omega arith) in
       e ∙ rw (xor_last-none (params_of v) (state_in (params_of v) words), h) refl
-
-  -- the output keeps its length
-  pub length_output : (n : ℕ) (o out₀ : List ℕ) → n * (params_of v).rate ≤ count * (params_of v).rate
-      → (w ≡ true → count * (params_of v).rate ≤ length out₀)
-      → o ≡ blocks_out (params_of v) false opens w n (state_in (params_of v) words) (held ++ input) out₀
-      → length o ≡ length out₀
-  length_output n o out₀ some room e =
-      ap length e ∙ length-blocks_out (params_of v) false opens w n (state_in (params_of v) words) (held ++ input) out₀
-      (length-written (params_of v) (sizes v) false opens n (state_in (params_of v) words) (held ++ input)
-      (length-state_in (params_of v) (sizes v) (small v) words hw)
-      (simp length-append (omega (arith, some, enough))))
-      (λ h. omega (arith, some, room h))
 
   module _ (first n : ℕ) (part : List ℕ) (en : n ≡ first * (params_of v).rate) (k : Held (params_of v) (length held) count first)
       (ep : part ≡ in_array 64 (take n (drop 0 (held ++ input)))) where

@@ -1,6 +1,7 @@
 -- What `whole.rt` makes of a packet, piece by piece and over plain variables: the specification's state after a header, and
 -- the point of the data from the words alone, where no bytes are held.
-use Rattle.std.proofs.Common.{◌≡◌, ℕ, ◌+◌, ◌-◌, ◌*◌, ◌<◌, ◌≤◌, Bool, true, false, cond, ltb, List, [], ◌∷◌, ◌++◌, length, take, drop, sym, refl, ap, ◌∙◌, ap₂, append-nil, arith, length-drop, drop_of_length-le, take_all, ltb-false, Result, Ok, Err}
+use Rattle.std.proofs.Common.{◌≡◌, ℕ, ◌+◌, ◌-◌, ◌*◌, ◌<◌, ◌≤◌, Bool, true, false, cond, ltb, List, [], ◌∷◌, ◌++◌, length, take, drop, sym, refl, ap, ◌∙◌, ap₂, arith, length-drop, ltb-false, Result, Ok, Err}
+use Rattle.std.proofs.lemmas.List.{take_rest}
 use Rattle.schwaemm.specs.Bytes.{if_empty}
 use Rattle.schwaemm.specs.Blocks.{ready, after, given, held}
 use Rattle.schwaemm.specs.Schwaemm.{Params, leading, crypt, sealing, initialise, absorb_block, message_block, mix_last, absorb, prepared}
@@ -28,6 +29,7 @@ use Rattle.tc_sparkle_aead.specs.Calls.{answered}
 use Rattle.tc_sparkle_aead.specs.Packet.{PacketResult, data_point, end_mac, end_bytes, point_end_by, point_end, variant_packet}
 use Rattle.tc_sparkle_aead.proofs.Fill.{length-zeros}
 use Rattle.tc_sparkle_aead.proofs.StateLaws.{all-in_array, xor_last-none, length-state_in}
+use Rattle.tc_sparkle_aead.proofs.ByteLaws.{lent_back}
 use Rattle.tc_sparkle_aead.proofs.DataLaws.{data-room}
 use Rattle.tc_sparkle_aead.proofs.FinalLaws.{held_data_bound, sealing-room, opening-room, opening-whole}
 use Rattle.tc_sparkle_aead.proofs.PacketLaws.{header-last, packet_not_started, packet_no_room, packet-ended}
@@ -42,10 +44,6 @@ step-message p opens = refl
 step-absorb : (p : Params) → block_step p false false ≡ absorb_block p
 unfolding block_step absorb_block plain_by sealing
 step-absorb p = refl
-
--- what is left behind the blocks, in an array
-rest_all : (d : List ℕ) (gone rest : ℕ) → rest ≡ length d - gone → take rest (drop gone d) ≡ drop gone d
-rest_all d gone rest e = take_all rest (drop gone d) (simp length-drop (omega arith))
 
 -- ---- The start and the header.
 
@@ -74,7 +72,7 @@ module _ (v : SparkleVariant) (key nonce header w : List ℕ) (start : w ≡ in_
       let words : w₁ ≡ put_state p (in_array 16 s) (after p.rate (absorb_block p) count (state_in p (in_array 16 s)) header) =
       ew ∙ rw (xor_last-none p (state_in p w), step-absorb p, start) refl in
       let block : take rest (drop (count * rate) header) ≡ drop (count * p.rate) header =
-      rest_all header (count * rate) rest refl ∙ ap (λ (k : ℕ). drop (count * k) header) er in
+      take_rest header (count * rate) ∙ ap (λ (k : ℕ). drop (count * k) header) er in
       e ∙ header-last p (sizes v) (small v) s header w₁ (take rest (drop (count * rate) header)) count (length-initialise p (sizes v) key nonce) some ec words block
 
 -- ---- The data.
@@ -142,7 +140,7 @@ module _ (v : SparkleVariant) (d : Direction) (words input : List ℕ) (opens : 
       let ew' : w ≡ put_state p words (after p.rate (message_block p (plain_of p (Data d))) (ready p.rate k (length input)) (state_in p words) input) =
       ew ∙ rw (xor_last-none p (state_in p words), the_step, ec) refl in
       let left : take rest (drop (count * rate) input) ≡ held p.rate k input =
-      rest_all input (count * rate) rest refl ∙ ap (λ (n : ℕ). drop n input) gone in
+      take_rest input (count * rate) ∙ ap (λ (n : ℕ). drop n input) gone in
       let eb' = eb ∙ ap (in_array 64) left in
       let eh = ap length left in
       (λ i. record { phase = Data d; words = ew' i; buffer = eb' i; held = eh i })
@@ -232,16 +230,6 @@ held_in_data : (p : Params) (phase : Phase) (d : Direction) (held : ℕ) → pha
     → buffered_count p phase held ≡ held_data p phase held
 held_in_data p phase d held is = rw is refl
 
--- a part that was lent from a place to the end, and back
-lent : (out : List ℕ) (n : ℕ) → take (length out - n) (drop n out) ≡ drop n out
-lent out n = take_all (length out - n) (drop n out) (simp length-drop (omega arith))
-
-part_to_end : (out last : List ℕ) (n : ℕ) → take n out ++ (last ++ drop (length out - n) (drop n out)) ≡ take n out ++ last
-part_to_end out last n =
-    let none : drop (length out - n) (drop n out) ≡ [] =
-    drop_of_length-le (drop n out) {i = length out - n} (simp length-drop (omega arith)) in
-    ap (λ (l : List ℕ). take n out ++ l) (ap (λ (l : List ℕ). last ++ l) none ∙ append-nil last)
-
 -- the end at a point in Data, behind n bytes of the output; k is the key in an array
 module _ (v : SparkleVariant) (at : Point) (key : List ℕ) (n : ℕ) (out : List ℕ) (answer : Result ℕ AeadError)
     (checked : answer ≡ end_check (params_of v) at.phase at.held (length out - n)) where
@@ -264,8 +252,8 @@ module _ (v : SparkleVariant) (at : Point) (key : List ℕ) (n : ℕ) (out : Lis
           → last ≡ written (end_bytes opens (params_of v) (take (params_of v).key k) at) (take (length out - n) (drop n out))
           → take n out ++ (last ++ drop (length out - n) (drop n out)) ≡ (point_end n (params_of v) key at out).out
       placed opens eo last el =
-          part_to_end out last n
-          ∙ ap (λ (l : List ℕ). take n out ++ l) (el ∙ rw (lent out n, the-key, eo) refl)
+          lent_back out last n
+          ∙ ap (λ (l : List ℕ). take n out ++ l) (el ∙ rw (take_rest out n, the-key, eo) refl)
           ∙ ap (λ (r : PacketResult). r.out) (end_by_lem (Ok m) passed)
 
       replied : (opens : Bool) → opens ≡ opening at.phase → (mac : Mac)
@@ -307,7 +295,7 @@ module _ (v : SparkleVariant) (at : Point) (key : List ℕ) (n : ℕ) (out : Lis
       same-held = held_in_data (params_of v) at.phase (direction_of at.phase) at.held is-data
 
       part_length : length (take (length out - n) (drop n out)) ≡ length out - n
-      part_length = ap length (lent out n) ∙ length-drop n out
+      part_length = ap length (take_rest out n) ∙ length-drop n out
 
       pub seal-fits : opening at.phase ≡ false
           → (buffered_count (params_of v) at.phase at.held ≤ (params_of v).rate)

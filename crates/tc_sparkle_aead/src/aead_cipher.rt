@@ -123,7 +123,7 @@ pub fn do_final(e: SparkleEngine, output: &mut [u8]) -> Done<Result<usize, AeadE
 {
     let at = e.current;
     let answer = at.as_held(e.variant).end_check(output.len());
-    let Ok(_) = answer else {
+    let Ok(n) = answer else {
         return Done { answer, engine: e };
     };
     let data_point = at.begin_data(e.variant);
@@ -131,10 +131,16 @@ pub fn do_final(e: SparkleEngine, output: &mut [u8]) -> Done<Result<usize, AeadE
     let first = at.begin_steps(e.variant);
     if checks::opening(at.phase) {
         let end = data_point.open_end(e.variant, key, output);
-        return e.finish(answer, Direction::Decrypt, first, end);
+        // Where no tag can be read, the received one was wrong. The two answers have a return each: so the code that
+        // is built asks once whether the tag is right, for the output and for the answer (tools/constant-time).
+        if end.mac.readable {
+            return e.finish(Ok(n), Direction::Decrypt, first, end);
+        }
+        let wrong = Err(AeadError::AuthenticationFailed);
+        return e.finish(wrong, Direction::Decrypt, first, end);
     }
     let end = data_point.seal_end(e.variant, key, output);
-    e.finish(answer, Direction::Encrypt, first, end)
+    e.finish(Ok(n), Direction::Encrypt, first, end)
 }
 
 // How many bytes the next data call of n bytes writes.

@@ -54,14 +54,14 @@ impl Mode {
     }
 }
 
-// The first n words are written to the output from `pos` on, where `write` says so.
+// The words are written to the output from `pos` on, where `write` says so (`blocks_of`).
 #[tactic(auto, using(crate::proofs::ByteLaws::words_over))]
-fn store(output: &mut [u8], pos: usize, words: [u32; 8], n: usize, write: bool)
-    requires { (n ≤ 8) × (write ≡ true → pos + n * 4 ≤ length output.old) }
-    ensures { output.new ≡ (if write then paste output.old pos (to_bytes words) (n * 4) else output.old) }
+fn store(output: &mut [u8], pos: usize, words: &[u32], write: bool)
+    requires { write ≡ true → pos + length words.now * 4 ≤ length output.old }
+    ensures { output.new ≡ (if write then paste output.old pos (to_bytes words.now) (length words.now * 4) else output.old) }
 {
     if write {
-        bytes::put_words(&mut output[pos..], &words[..n]);
+        bytes::put_words(&mut output[pos..], words);
     }
 }
 
@@ -88,7 +88,7 @@ fn blocks_of<S: Duplex>(
     for i in 0..count {
         let pos = i * (n * 4);
         let block = bytes::words_in(&input[pos..pos + n * 4]);
-        store(output, pos, state.crypt(block), n, write);
+        store(output, pos, &state.crypt(block)[..n], write);
         state = state.take_up(block, mode.mask, steps);
     }
     state.store(words);
@@ -96,7 +96,8 @@ fn blocks_of<S: Duplex>(
 
 // The state takes up `count` blocks of the input. Where `write` says so, what the blocks become goes to the
 // output from its start; the flag stands beside the output as in `blocks_of`. The match turns a variant, which
-// is known at a call, into const arguments, which are known before.
+// is known at a call, into const arguments, which are known before. What both take side by side is of one call: a
+// struct would be made for `blocks` and taken apart in `blocks_of`.
 pub(crate) fn blocks(
     variant: SparkleVariant,
     words: &mut [u32; 16],
@@ -126,8 +127,8 @@ pub(crate) fn blocks(
     }
 }
 
-// Held bytes and input come as two slices with their bounds beside them: the bounds are the variant's, and
-// a struct of both would carry the variant a second time.
+// Held bytes and input come as two slices with their bounds beside them: the bounds are the variant's, and a
+// struct of all three would be made at each call and taken apart at once.
 
 // Of `count` blocks, how many have held bytes in them.
 #[tactic(auto, using(crate::proofs::StreamLaws::held_value, crate::proofs::StreamLaws::held_first))]
@@ -259,7 +260,8 @@ fn pad(variant: SparkleVariant, last: &[u8]) -> [u8; 64]
     r
 }
 
-// The domain constant: (v xor 2^(key bytes / 8)) × 2^24.
+// The domain constant: (v xor 2^(key bytes / 8)) × 2^24. v is a number, as in document 01; an enum in its place is
+// a request of document 02 (2026-06), which is a landing of its own.
 #[tactic(auto, using(crate::proofs::LastBlock::domain_power), unfolding(schwaemm::specs::Schwaemm::domain))]
 pub(crate) fn domain_constant(variant: SparkleVariant, v: u32) -> u32
     requires { v < 4 }
@@ -268,8 +270,8 @@ pub(crate) fn domain_constant(variant: SparkleVariant, v: u32) -> u32
     (v ^ (1 << (variant.key_bytes() / 8))) * 0x100_0000
 }
 
-// The last block is taken up; `short` is the paper's number of the domain of a short block: 0 for the header, 2 for
-// the message. A full one has the next number.
+// The last block is taken up; `short` is document 01's v of a short block: 0 for the header, 2 for the message. A
+// full one has the next number.
 pub(crate) fn mix_last(
     variant: SparkleVariant,
     words: [u32; 16],
@@ -301,6 +303,7 @@ fn start_of<const RATE: usize, const KEY: usize>(key: [u32; 8]) -> [u32; 16]
     let mut words = [0; 16];
     words[half..RATE].copy_from_slice(&key[..half]);
     words[RATE..RATE + KEY].copy_from_slice(&key[..KEY]);
+    // By index: the words of the key are gone through twice, the second time from another place.
     for i in 0..half {
         words[i] = key[i] ^ key[(half + i) % KEY];
     }

@@ -101,6 +101,7 @@ impl<const WORDS: usize, const RATE: usize, const SLIM: u32, const BIG: u32> Spo
         let s = self.state.words;
         let half = RATE / 2;
         let mut mixed = s;
+        // By index: a word takes up words of three other places.
         for i in 0..RATE {
             let swapped = if i < half {
                 s[half + i]

@@ -4,9 +4,9 @@
 // are functions as they are, and would say no more as methods.
 ghost use Rattle.std.specs.Prelude.{◌≡◌, ◌≤◌, length};
 ghost use Rattle.tc_aead_cipher.specs.Variant.{params_of};
-ghost use Rattle.tc_aead_cipher.specs.Outcome.{outcome, start_outcome, answered as answered_by};
+ghost use Rattle.tc_aead_cipher.specs.Outcome.{outcome, start_outcome, answered};
 ghost use Rattle.tc_sparkle_aead.specs.Engine.{new_engine, no_pair, no_steps, init_steps, repeats, remember};
-ghost use Rattle.tc_sparkle_aead.specs.Calls.{add_steps, at_point, refused, started, answered, finish};
+ghost use Rattle.tc_sparkle_aead.specs.Calls.{add_steps, at_point, refused, started, finish};
 
 use super::bytes;
 use super::message::{End, Mac, Point, Start};
@@ -53,7 +53,7 @@ pub struct Done<A> {
 
 // A start among the calls of every kind: it counts nothing.
 impl From<Done<Result<(), AeadInitError>>> for Done<Result<usize, Refusal>> {
-    ghost from_gives = { λ s r. (answered_by r.answer ≡ start_outcome s.answer) × (r.engine ≡ s.engine) };
+    ghost from_gives = { λ s r. (answered r.answer ≡ start_outcome s.answer) × (r.engine ≡ s.engine) };
 
     fn from(s: Done<Result<(), AeadInitError>>) -> Done<Result<usize, Refusal>> {
         Done {
@@ -63,9 +63,10 @@ impl From<Done<Result<(), AeadInitError>>> for Done<Result<usize, Refusal>> {
     }
 }
 
-// A call on a message among them.
+// A call on a message among them. One impl over all kinds of answers would also be one of a type into itself, which
+// the library has.
 impl From<Done<Result<usize, AeadError>>> for Done<Result<usize, Refusal>> {
-    ghost from_gives = { λ d r. (answered_by r.answer ≡ outcome d.answer) × (r.engine ≡ d.engine) };
+    ghost from_gives = { λ d r. (answered r.answer ≡ outcome d.answer) × (r.engine ≡ d.engine) };
 
     fn from(d: Done<Result<usize, AeadError>>) -> Done<Result<usize, Refusal>> {
         Done {
@@ -226,8 +227,7 @@ impl SparkleEngine {
         }
     }
 
-    // The message has ended, after `first` steps and those of its end. Where no tag can be read, the received
-    // one was wrong.
+    // The message has ended with this answer, after `first` steps and those of its end.
     #[tactic(auto, unfolding(crate::specs::Message::zeros, crate::specs::Message::final_point, crate::specs::Calls::at_point, crate::specs::Calls::final_engine, crate::specs::Calls::finish))]
     pub(crate) fn finish(
         self,
@@ -236,15 +236,10 @@ impl SparkleEngine {
         first: u64,
         end: End,
     ) -> Done<Result<usize, AeadError>>
-        ensures { result ≡ finish (at_point self self.current first) (answered answer end.mac) d end.mac end.steps }
+        ensures { result ≡ finish (at_point self self.current first) answer d end.mac end.steps }
     {
-        let checked = if end.mac.readable {
-            answer
-        } else {
-            Err(AeadError::AuthenticationFailed)
-        };
         Done {
-            answer: checked,
+            answer,
             engine: SparkleEngine {
                 current: Point::empty(Phase::Final(d), [0; 16]),
                 mac: end.mac,

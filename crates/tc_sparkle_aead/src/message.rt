@@ -51,7 +51,8 @@ pub struct Progress {
     pub(crate) steps: u64,
 }
 
-// What the end of a message gives: the tag, and the steps that it runs.
+// What the end of a message gives: the tag, and the steps that it runs. Not one type with `Progress`: the
+// definitions name what each has, the point or the tag.
 #[derive(Clone, Copy)]
 pub struct End {
     pub(crate) mac: Mac,
@@ -280,7 +281,8 @@ impl Point {
     }
 }
 
-// The words after the last block: as they were, where there is none.
+// The words after the last block: as they were, where there is none. The variant stands beside the words, as beside
+// a point.
 #[tactic(auto, using(crate::proofs::EndLaws::put_last_none, crate::proofs::EndLaws::put_last_some))]
 fn last_words(variant: SparkleVariant, words: [u32; 16], last: &[u8]) -> [u32; 16]
     requires { length last.now ≤ (params_of variant).rate }

@@ -16,13 +16,12 @@ use host::{Direction, Done, List, Packet};
 use measure::contenders::{Job, Operation, VARIANTS};
 use measure::valgrind::{errors, make_defined, make_undefined, running, shut_off};
 
-/// The places in the code that was built: of an opened packet those that depend on whether the tag is right, those of
+/// The places of an opened packet that depend on whether the tag is right, those of
 /// one that is opened whole or not at all, those of a list that opens, and those of
 /// a second start that depend on whether key and nonce are the last loaded ones.
 const PACKET_OPENS: u64 = 1;
 const WHOLE_OPENS: u64 = 1;
-// For the bytes that the end writes, and for its answer.
-const LIST_OPENS: u64 = 2;
+const LIST_OPENS: u64 = 1;
 const SECOND_START: u64 = 1;
 
 /// Runs a case, says how many reports came, and whether they may.

@@ -1,9 +1,10 @@
 -- What the first line is found to be, and the line at a place of the loop.
 use Rattle.std.proofs.Common.{◌<◌, length, refl, sym, ap, ◌∙◌, add-one, arith}
 use borrow.Author.Tests.{lt-ltb}
+use Rattle.std.proofs.option.Match.{None-if_not_some}
 use Rattle.call_text.specs.Line.{found_in, read_variant}
 use Rattle.call_text.specs.List.{check_file}
-use Rattle.call_text.proofs.ListSteps.{end_within, end_further, first_wrong, first_found, call_wrong, call_right, calls-end, is_nothing, is_something}
+use Rattle.call_text.proofs.ListSteps.{end_within, end_further, first_wrong, first_found, call_wrong, call_right, calls-end, is_something}
 use Rattle.call_text.proofs.list.check.Goals as goal
 
 pub returns-then-file-gt-FILE_BYTES : goal.returns-then-file-gt-FILE_BYTES
@@ -24,7 +25,7 @@ loop-at-init c =
 pub returns-then-is_none : goal.returns-then-is_none
 returns-then-is_none c =
     let l = c.loop-at in
-    let e = ap found_in (sym c.line_at-in-loop-at.ensures) ∙ sym c.found_in.ensures ∙ is_nothing _ c.if-is_none.ensures in
+    let e = ap found_in (sym c.line_at-in-loop-at.ensures) ∙ sym c.found_in.ensures ∙ None-if_not_some _ c.if-is_none.ensures in
     sym (l.invariant.0 ∙ call_wrong _ _ _ _ (omega arith) e)
 
 pub loop-at-smaller : goal.loop-at-smaller

@@ -27,6 +27,8 @@ returns c =
           c.call-c.result
           c.call-c.ensures
           _
+          c.from.ensures
+          _
           c.steps.ensures
           _
           c.mac.ensures

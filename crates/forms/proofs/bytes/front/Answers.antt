@@ -1,19 +1,16 @@
--- `front` meets its contract: the bytes before the first that is not of the kind are of it.
-use Rattle.std.proofs.Common.{◌≡◌, true, get_or, sym, ◌∙◌, arith}
-use Rattle.forms.proofs.BytesLaws.{front_first, one_more}
+-- `front` meets its contract: as many bytes as `take_while` takes are in front.
+use Rattle.std.proofs.Common.{ap, ◌∙◌, rules}
+use Rattle.std.proofs.lemmas.Iterator.{YieldsList-from_slice}
+use Rattle.std.proofs.lemmas.Iterator.Consumers.{count_from_yields_List}
+use Rattle.std.proofs.lemmas.Iterator.Search.{YieldsList-from_take_while}
+use Rattle.std.proofs.lemmas.List.Folds.{length-prefix_len}
+use Rattle.forms.proofs.BytesLaws.{front_is}
 use Rattle.forms.proofs.bytes.front.Goals as goal
-
-pub returns-then-not-has : goal.returns-then-not-has
-returns-then-not-has g c =
-    let stops = sym c.has.ensures ∙ c.if-not-has.true in
-    front_first g.K.Kind.test c.args.s.now c.loop-n.n (omega arith) c.loop-n.invariant (λ _. stops)
-
-pub loop-n-preserved : goal.loop-n-preserved
-loop-n-preserved g c =
-    let more = sym c.has.ensures ∙ c.if-not-has.false in
-    one_more (λ k. g.K.Kind.test (get_or c.args.s.now k 0) ≡ true) c.loop-n.n c.loop-n.invariant more
 
 pub returns : goal.returns
 returns g c =
-    front_first g.K.Kind.test c.args.s.now _ (omega arith) (λ k h. c.loop-n.invariant k (omega arith))
-    (λ h. absurd (omega arith))
+    let s = c.args.s.now in
+    let has = g.K.Kind.test in
+    let taken = YieldsList-from_take_while _ has (YieldsList-from_slice s cc) c.take_while.ensures.closure
+    c.take_while.ensures.done (λ x b q k. (search rules, k.called.met ∙ ap (λ p. has p.now) k.shows)) in
+    count_from_yields_List _ _ c.count.ensures.ran taken ∙ length-prefix_len has s ∙ front_is has s

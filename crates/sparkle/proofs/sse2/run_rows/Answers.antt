@@ -28,15 +28,3 @@ loop-s-preserved c =
 pub returns : goal.returns
 returns c first table =
     turn c.before first table ∙ ap (λ (n : ℕ). run 8 first n (joined c.args.start)) (omega arith)
-
-pub bounds-rows-s : goal.bounds-rows-s
-bounds-rows-s c = omega (arith, c.loop-s.invariant.0, c.requires.1)
-
-pub offset_bounds-rows-s : goal.offset_bounds-rows-s
-offset_bounds-rows-s c = record { fits = omega (arith, c.loop-s.invariant.0, c.requires.1) }
-
-pub overflow_add-s : goal.overflow_add-s
-overflow_add-s c = record { fits = omega (arith, c.loop-s.invariant.0, c.requires.1) }
-
-pub loop-s-smaller : goal.loop-s-smaller
-loop-s-smaller c = omega (arith, c.loop-s.invariant.0)

@@ -1,5 +1,5 @@
 -- `do_final` goes by its check, and where that passes by the direction; a check that passes gives the callees their room.
-use Rattle.std.proofs.Common.{sym, ◌∙◌}
+use Rattle.std.proofs.Common.{true, false, sym, ◌∙◌}
 use Rattle.tc_sparkle_aead.specs.Engine.{current_key}
 use Rattle.tc_sparkle_aead.proofs.FinalLaws.{Accepted, seal-fits, final_sealed, final_sealed_out, open_fits, final_opened, final_opened_out, final_refused, final_refused_out}
 use Rattle.tc_sparkle_aead.proofs.aead_cipher.do_final.Goals as goal
@@ -11,7 +11,7 @@ accepted : (c : goal.After-opening)
     c.args.e
     c.begin_data-data_point.result
     c.args.output.now
-    c.in-Ok.field-0 c.opening.result
+    c.in-Ok.n c.opening.result
 accepted c =
     record {
       passed = sym (rw c.as_held.ensures at c.end_check-answer.ensures) ∙ c.in-Ok.is;
@@ -28,12 +28,21 @@ returns-in_default c =
 pub open_end-end-requires : goal.open_end-end-requires
 open_end-end-requires c = open_fits (accepted (goal.at.open_end-end-requires c).After-opening) c.if-opening.true
 
+pub returns-then-end : goal.returns-then-end
+unfolding current_key
+returns-then-end c =
+    let t = accepted (goal.at.returns-then-end c).After-opening in record {
+      value = final_opened t c.if-opening.true _ c.begin_steps-first.ensures _ _
+          c.open_end-end.ensures.value true c.if-end.true _ c.finish.ensures;
+      output_after = final_opened_out t c.if-opening.true _ c.open_end-end.ensures.output_after;
+    }
+
 pub returns-then-opening : goal.returns-then-opening
 unfolding current_key
 returns-then-opening c =
     let t = accepted (goal.at.returns-then-opening c).After-opening in record {
-      value = final_opened t c.if-opening.true _ c.in-Ok.is _ c.begin_steps-first.ensures _ _
-          c.open_end-end.ensures.value _ c.finish.ensures;
+      value = final_opened t c.if-opening.true _ c.begin_steps-first.ensures _ _
+          c.open_end-end.ensures.value false c.if-end.false _ c.finish-then-opening.ensures;
       output_after = final_opened_out t c.if-opening.true _ c.open_end-end.ensures.output_after;
     }
 
@@ -44,7 +53,7 @@ pub returns : goal.returns
 unfolding current_key
 returns c =
     let t = accepted (goal.at.returns c).After-opening in record {
-      value = final_sealed t c.if-opening.false _ c.in-Ok.is _ c.begin_steps-first.ensures _ _
+      value = final_sealed t c.if-opening.false _ c.begin_steps-first.ensures _ _
           c.seal_end-end.ensures.value _ c.finish-2.ensures;
       output_after = final_sealed_out t c.if-opening.false _ c.seal_end-end.ensures.output_after;
     }

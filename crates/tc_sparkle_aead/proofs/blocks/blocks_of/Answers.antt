@@ -1,11 +1,12 @@
 -- `blocks_of` meets its contract: the invariant is `Run`, at the sizes of the state.
-use Rattle.std.proofs.Common.{◌≡◌, ℕ, ◌*◌, ◌<◌, ◌^◌, length, sym, refl, ap, ◌∙◌, subst, arith, rules}
+use Rattle.std.proofs.Common.{◌≡◌, ℕ, ◌*◌, ◌<◌, ◌^◌, length, sym, refl, ap, ◌∙◌, subst, le_refl, arith, rules}
+use Rattle.std.proofs.lemmas.Nat.{row_fits}
 use Rattle.sparkle.specs.Words.{Words}
 use Rattle.sparkle.proofs.Below.{below_of}
 use Rattle.schwaemm.proofs.States.{state_length}
-use Rattle.tc_sparkle_aead.proofs.ByteLaws.{part_read}
+use Rattle.tc_sparkle_aead.proofs.ByteLaws.{part_read, words_taken}
 use Rattle.tc_sparkle_aead.proofs.StateLaws.{length-loaded, words-loaded}
-use Rattle.tc_sparkle_aead.proofs.BlockRuns.{run-start, run-turn, run_fits}
+use Rattle.tc_sparkle_aead.proofs.BlockRuns.{run-start, run-turn}
 use Rattle.tc_sparkle_aead.proofs.blocks.blocks_of.Goals as goal
 use Rattle.tc_sparkle_aead.proofs.blocks.blocks_of.Goals.{After-load-state}
 
@@ -31,11 +32,12 @@ loop-i-preserved g c =
     let pos = i * (c.block_words-n.result * 4) in
     let wb : Words b = below_of _ (λ i. search rules) in
     let hb : length b ≡ 8 = search rules in
+    let hr : length c.crypt.result ≡ 8 = search rules in
     let at : pos ≡ i * p.rate = ap (λ (k : ℕ). i * k) n in
-    let k = run_fits i c.args.count p.rate (omega arith) in
+    let k = row_fits i p.rate c.args.count p.rate (omega arith) (le_refl p.rate) in
     run-turn p _ _ _ _ _ _ f.sizes (first-length g (goal.at.loop-i-preserved g c).After-load-state) c.args.count c.requires.1 c.requires.2
     (omega arith) c.loop-i.invariant b _ _ pos (c.block_words-n.result * 4) _ _ at n refl c.steps-steps.ensures wb hb
     (omega (arith, f)) (omega (arith, f))
     (part_read c.args.input.now _ pos (c.block_words-n.result * 4) (omega (arith, k, at, n, c.requires.1)) c.words_in-block.ensures)
-    (rw c.crypt.ensures at c.store.ensures)
+    (rw (words_taken _ c.crypt.result _ c.block_words-n.result (omega (arith, f, n, hr)), c.crypt.ensures) at c.store.ensures)
     c.take_up-state.ensures

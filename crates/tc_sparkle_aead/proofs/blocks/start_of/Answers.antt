@@ -1,11 +1,12 @@
 -- `start_of` lays the left half of the start over an array that has the rest of it.
 use Rattle.std.proofs.Common.{◌≡◌, ◌/◌, length, refl, ap, ◌∙◌, arith, rules}
-use Rattle.tc_sparkle_aead.proofs.Fill.{laid, laid_none, laid_turn}
+use Rattle.tc_sparkle_aead.proofs.Fill.{laid, laid_turn}
 use Rattle.tc_sparkle_aead.proofs.StartLaws.{start-at, length_start_array, length-base, start_all}
 use Rattle.tc_sparkle_aead.proofs.blocks.start_of.Goals as goal
 
 pub loop-i-init : goal.loop-i-init
-loop-i-init g c = laid_none _ _
+unfolding laid
+loop-i-init g c = refl
 
 pub loop-i-preserved : goal.loop-i-preserved
 loop-i-preserved g c =

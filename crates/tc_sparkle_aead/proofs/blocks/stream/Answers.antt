@@ -1,13 +1,12 @@
 -- `stream` takes up the blocks that have held bytes in them, then those of the input, and writes what they become.
-use Rattle.std.proofs.Common.{◌≡◌, ℕ, ◌+◌, ◌-◌, ◌*◌, ◌<◌, ◌≤◌, Bool, true, false, refl, cond, List, ◌++◌, length, take, ap, ◌∙◌, arith, rules}
+use Rattle.std.proofs.Common.{◌≡◌, ℕ, ◌*◌, ◌<◌, ◌≤◌, true, false, cond, List, ◌++◌, length, take, ap, ◌∙◌, arith, rules}
 use Rattle.std.proofs.lemmas.Bool.Decides.{nat_tests}
-use Rattle.schwaemm.specs.Schwaemm.{Params}
+use Rattle.std.proofs.lemmas.List.{take_rest}
 use Rattle.tc_aead_cipher.specs.Variant.{params_of}
-use Rattle.tc_aead_cipher.proofs.VariantLaws.{small}
-use Rattle.tc_sparkle_aead.specs.Message.{Held}
-use Rattle.tc_sparkle_aead.proofs.StreamLaws.{length_output, held_within, lent-from, lent_back, stream-none, output-none, first-state, stream-first, output-first, stream-rest, output-rest}
+use Rattle.tc_sparkle_aead.proofs.ByteLaws.{lent_back}
+use Rattle.tc_sparkle_aead.proofs.StreamLaws.{stream-none, output-none, first-state, stream-first, output-first, stream-rest, output-rest}
 use Rattle.tc_sparkle_aead.proofs.blocks.stream.Goals as goal
-use Rattle.tc_sparkle_aead.proofs.blocks.stream.Goals.{Start, After-blocks-2, After-blocks-3, Joined-write, then-write, else-write}
+use Rattle.tc_sparkle_aead.proofs.blocks.stream.Goals.{Start, Joined-write, then-write, else-write}
 
 words-length : (c : goal.Start) → length c.args.words ≡ 16
 words-length c = search rules
@@ -21,20 +20,6 @@ returns-then-is_empty c =
       output_after = output-none c.args.variant c.args.opening c.args.write c.args.words c.args.held.now c.args.input.now c.args.count (words-length s) c.requires.0 c.requires.1 _ _ none done.output_after;
     }
 
-pub overflow_mul-n : goal.overflow_mul-n
-overflow_mul-n c = rw c.nonce_bytes.ensures (omega arith)
-
-pub gather-part-requires : goal.gather-part-requires
-gather-part-requires c =
-    let k = c.held_blocks-first.ensures.held in
-    rw c.nonce_bytes.ensures (k.small, omega (arith, held_within (params_of c.args.variant) _ _ _ k, c.requires, small c.args.variant))
-
-pub blocks-requires-2 : goal.blocks-requires-2
-blocks-requires-2 c =
-    let k = c.held_blocks-first.ensures.held in
-    let part : length c.gather-part.result ≡ 64 = search rules in
-    (omega (arith, k, part), λ w. omega (arith, held_within (params_of c.args.variant) _ _ _ k, c.requires.2 w))
-
 pub returns-then-first-count : goal.returns-then-first-count
 returns-then-first-count c =
     let s = (goal.at.returns-then-first-count c).Start in
@@ -46,18 +31,9 @@ returns-then-first-count c =
       output_after = rw c.if-first-count.true at (output-first c.args.variant c.args.opening c.args.write c.args.words c.args.held.now c.args.input.now c.args.count (words-length s) c.requires.0 c.requires.1 first _ _ en k c.gather-part.ensures _ _ done.output_after);
     }
 
--- where the input's own blocks begin
-starts : (p : Params) (held count first rate total : ℕ) → Held p held count first → rate ≡ p.rate → count * p.rate ≤ held + total
-    → first * rate - held ≤ total
-starts p held count first rate total k e fits = rw e (omega (arith, held_within p held count first k, fits))
-
 -- where the output is written that is behind the gathered blocks
 behind-is : (c : goal.Joined-write) → c.if-write.behind ≡ cond c.args.write (c.held_blocks-first.result * c.nonce_bytes.result) 0
 behind-is c = elim c.if-write.branch [ then-write w ↦ rw w.if-write.true w.behind-is | else-write w ↦ rw w.if-write.false w.behind-is ]
-
-behind_fits : (w : Bool) (behind n out : ℕ) → behind ≡ cond w n 0 → (w ≡ true → n ≤ out) → behind ≤ out
-behind_fits true behind n out e fits = omega (arith, fits refl)
-behind_fits false behind n out e fits = omega arith
 
 pub returns : goal.returns
 returns c =
@@ -68,18 +44,15 @@ returns c =
     let n = first * c.nonce_bytes.result in
     let en = ap (λ (r : ℕ). first * r) c.nonce_bytes.ensures in
     let some : first < c.args.count = omega (arith, k.some, c.if-first-count.false) in
-    let lent = lent-from c.args.input.now _ (starts p _ _ _ _ _ k c.nonce_bytes.ensures c.requires.1) in
+    let lent = take_rest c.args.input.now _ in
     let one = rw c.leading-2.ensures at c.blocks-2.ensures in
     let two = rw c.leading-3.ensures at c.blocks-3.ensures in
     let mid = first-state c.args.variant c.args.opening c.args.write c.args.words c.args.held.now c.args.input.now c.args.count (words-length s) c.requires.0 c.requires.1 first n _ en k c.gather-part.ensures _ one.words_after in
     let front = output-first c.args.variant c.args.opening c.args.write c.args.words c.args.held.now c.args.input.now c.args.count (words-length s) c.requires.0 c.requires.1 first n _ en k c.gather-part.ensures c.blocks-2.new.output c.args.output.now one.output_after in
-    let same = length_output c.args.variant c.args.opening c.args.write c.args.words c.args.held.now c.args.input.now c.args.count (words-length s) c.requires.0 c.requires.1 first c.blocks-2.new.output c.args.output.now (held_within p _ _ _ k) c.requires.2 front in
-    let at = behind-is (goal.at.returns c).Joined-write in
-    let fits = behind_fits c.args.write c.if-write.behind n (length c.blocks-2.new.output) at
-    (λ w. omega (arith, en, same, held_within p _ _ _ k, c.requires.2 w)) in record {
+    let at = behind-is (goal.at.returns c).Joined-write in record {
       value = stream-rest c.args.variant c.args.opening c.args.write c.args.words c.args.held.now c.args.input.now c.args.count (words-length s) c.requires.0 c.requires.1 first n _ en k c.gather-part.ensures some _ lent _ _ mid two.words_after;
       output_after =
           output-rest c.args.variant c.args.opening c.args.write c.args.words c.args.held.now c.args.input.now c.args.count (words-length s) c.requires.0 c.requires.1 first n _ en k c.gather-part.ensures some _ lent _ c.blocks-2.new.output _ c.args.output.now c.if-write.behind at mid front
           (lent_back c.blocks-2.new.output c.blocks-3.new.output c.if-write.behind
-          ∙ ap (λ (x : List ℕ). take c.if-write.behind c.blocks-2.new.output ++ x) (rw (lent-from c.blocks-2.new.output c.if-write.behind fits) at two.output_after));
+          ∙ ap (λ (x : List ℕ). take c.if-write.behind c.blocks-2.new.output ++ x) (rw (take_rest c.blocks-2.new.output c.if-write.behind) at two.output_after));
     }

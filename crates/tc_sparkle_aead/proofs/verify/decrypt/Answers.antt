@@ -1,11 +1,11 @@
 -- `decrypt` writes what the packet's blocks become, and behind that what the last block becomes.
-use Rattle.std.proofs.Common.{◌≡◌, ℕ, ◌+◌, ◌-◌, ◌≤◌, length, refl, ap, arith, sym, length-take, length-take-le, length-drop}
+use Rattle.std.proofs.Common.{ℕ, ◌+◌, ◌-◌, ◌≤◌, length, refl, ap, arith}
 use Rattle.tc_aead_cipher.specs.Variant.{params_of}
 use Rattle.tc_aead_cipher.proofs.VariantLaws.{small}
 use Rattle.tc_sparkle_aead.proofs.ByteLaws.{part_paste}
 use Rattle.tc_sparkle_aead.proofs.OpenWholeLaws.{whole_blocks_fit, whole-held, whole-written}
 use Rattle.tc_sparkle_aead.proofs.verify.decrypt.Goals as goal
-use Rattle.tc_sparkle_aead.proofs.verify.decrypt.Goals.{After-tag_bytes, After-crypt-last}
+use Rattle.tc_sparkle_aead.proofs.verify.decrypt.Goals.{After-tag_bytes}
 
 pub data-at-requires : goal.data-at-requires
 data-at-requires c = λ e.
@@ -40,29 +40,6 @@ overflow_sub-pos c = (stays (goal.at.overflow_sub-pos c).After-tag_bytes).2
 pub slice_bounds-copy_from_slice-end : goal.slice_bounds-copy_from_slice-end
 slice_bounds-copy_from_slice-end c =
     omega (arith, c.tag_bytes.ensures, stays (goal.at.slice_bounds-copy_from_slice-end c).After-tag_bytes, small c.args.start.variant, c.requires.1, c.data-at.auto.output)
-
--- the last block fits its array
-last-fits : (c : After-crypt-last)
-    → (c.data-at.result.held ≤ (params_of c.args.start.variant).key + (params_of c.args.start.variant).rate)
-    → c.data-at.result.held - c.tag_bytes.result ≤ length c.crypt-last.result
-last-fits c few =
-    let long : length c.crypt-last.result ≡ 64 = c.crypt-last.type_inv.1.0.1 in
-    omega (arith, long, c.tag_bytes.ensures, few, small c.args.start.variant)
-
-pub slice_bounds-last-end : goal.slice_bounds-last-end
-slice_bounds-last-end c =
-    last-fits (goal.at.slice_bounds-last-end c).After-crypt-last (stays (goal.at.slice_bounds-last-end c).After-tag_bytes).1
-
-pub slice_bounds-copy_from_slice-end-2 : goal.slice_bounds-copy_from_slice-end-2
-slice_bounds-copy_from_slice-end-2 c =
-    let few = (stays (goal.at.slice_bounds-copy_from_slice-end-2 c).After-tag_bytes).1 in
-    sym (length-take-le _ c.crypt-last.result (last-fits (goal.at.slice_bounds-copy_from_slice-end-2 c).After-crypt-last few))
-
-pub copy_from_slice-requires : goal.copy_from_slice-requires
-copy_from_slice-requires c =
-    let few = stays (goal.at.copy_from_slice-requires c).After-tag_bytes in
-    let fits = last-fits (goal.at.copy_from_slice-requires c).After-crypt-last few.1 in
-    simp (length-take, length-drop) (omega (arith, few, fits, c.tag_bytes.ensures, c.requires.1, c.data-at.auto.output))
 
 pub returns : goal.returns
 returns c =

@@ -1,5 +1,5 @@
 -- `run` runs one step a turn, whose number counts modulo 2^32.
-use Rattle.std.proofs.Common.{◌/◌, ℕ, ap, ◌∙◌, arith}
+use Rattle.std.proofs.Common.{◌/◌, arith}
 use Rattle.sparkle.specs.Sparkle.{run}
 use Rattle.sparkle.proofs.Runs.{run_none, run_next_wrapped}
 use Rattle.sparkle.proofs.scalar.State.run.Goals as goal
@@ -9,7 +9,3 @@ loop-i-init g c = run_none (g.row.N / 2) _ 0 _ (omega arith)
 
 pub loop-i-preserved : goal.loop-i-preserved
 loop-i-preserved g c = run_next_wrapped (g.row.N / 2) c.args.first c.loop-i.i c.args.self.words c.loop-i.invariant c.step-state.ensures
-
-pub returns : goal.returns
-returns g c =
-    c.loop-i.invariant ∙ ap (λ (i : ℕ). run (g.row.N / 2) c.args.first i c.args.self.words) (omega arith)

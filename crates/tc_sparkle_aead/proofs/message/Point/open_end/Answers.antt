@@ -1,12 +1,12 @@
 -- `open_end` has the last bytes, the tag and its verdict from its callees, and then writes by the verdict.
-use Rattle.std.proofs.Common.{◌≡◌, ◌+◌, ◌-◌, ◌≤◌, length, take, drop, arith, rules, ℕ, ap, ◌∙◌}
+use Rattle.std.proofs.Common.{◌≡◌, ◌+◌, ◌-◌, ◌≤◌, refl, length, take, drop, arith, rules, ℕ, ap, ◌∙◌}
 use Rattle.schwaemm.specs.Bytes.{same}
 use Rattle.tc_sparkle_aead.specs.Message.{zeros}
 use Rattle.tc_aead_cipher.proofs.VariantLaws.{small}
-use Rattle.tc_sparkle_aead.proofs.ByteLaws.{front_paste}
+use Rattle.tc_sparkle_aead.proofs.ByteLaws.{part_paste}
 use Rattle.tc_sparkle_aead.proofs.EndLaws.{Opening, opening-is, opened, opened_out, unopened, unopened_out}
 use Rattle.tc_sparkle_aead.proofs.message.Point.open_end.Goals as goal
-use Rattle.tc_sparkle_aead.proofs.message.Point.open_end.Goals.{After-buffered_count, After-same_bytes, After-tag_bytes-size}
+use Rattle.tc_sparkle_aead.proofs.message.Point.open_end.Goals.{After-buffered_count, After-same_bytes}
 
 -- the held bytes end with a tag, and what is before it fits a block and the output
 fits : (c : After-buffered_count)
@@ -50,7 +50,7 @@ returns-then-same_bytes c =
     let o = computed (goal.at.returns-then-same_bytes c).After-same_bytes in
     record {
       value = opened o c.if-same_bytes.true;
-      output_after = opened_out o _ _ c.if-same_bytes.true (front_paste c.args.output.now c.crypt-plain.result _ c.copy_from_slice.ensures.after);
+      output_after = opened_out o _ _ c.if-same_bytes.true (part_paste c.args.output.now c.crypt-plain.result 0 _ _ c.copy_from_slice.ensures.after refl);
     }
 
 pub returns-else-same_bytes : goal.returns-else-same_bytes

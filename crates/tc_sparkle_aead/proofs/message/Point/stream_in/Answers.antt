@@ -1,10 +1,9 @@
 -- `stream_in` is the point after the blocks that go, and writes what they become.
-use Rattle.std.proofs.Common.{◌≡◌, ◌+◌, ◌*◌, ◌≤◌, length, take, arith, rules, length-take-le}
+use Rattle.std.proofs.Common.{◌≡◌, ◌+◌, ◌*◌, ◌≤◌, length, take, arith, rules, length-append, length-take-le}
 use Rattle.tc_aead_cipher.specs.Variant.{params_of}
 use Rattle.schwaemm.proofs.RoundTrip.{length_crypted_blocks}
 use Rattle.tc_sparkle_aead.proofs.CallLaws.{buffered_count_bound, buffered_count_blocks, streamed-rate, gone_bound, rest_bound}
 use Rattle.tc_sparkle_aead.proofs.StateLaws.{state-length}
-use Rattle.tc_sparkle_aead.proofs.BlockRuns.{length-stream}
 use Rattle.tc_sparkle_aead.proofs.DataLaws.{count-is, written_at}
 use Rattle.tc_sparkle_aead.specs.Message.{plain_of}
 use Rattle.tc_aead_cipher.specs.Checks.{keep}
@@ -66,7 +65,7 @@ returns c =
       output_after = written_at p at input _ _ h.result count h.ensures c.requires.0
           (length_crypted_blocks p (sizes v) (plain_of p at.phase) count _ _
           (state-length p at.words (omega (arith, words-length, small v)))
-          (length-stream at.buffer input h.result _ buffer-length
-          (omega (arith, h.ensures, buffered_count_bound p (small v) at.phase at.held)) (gone (goal.at.returns c).After-buffered_count-held)))
+          (simp length-append
+          (omega (arith, length-take-le h.result at.buffer (omega (arith, buffer-length, h.ensures, buffered_count_bound p (small v) at.phase at.held)), gone (goal.at.returns c).After-buffered_count-held))))
           done.output_after;
     }
