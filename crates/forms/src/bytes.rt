@@ -11,16 +11,21 @@ pub trait Kind {
         ensures { result ≡ test b };
 }
 
+#[derive(Clone, Copy)]
 pub struct Letter;
 
+#[derive(Clone, Copy)]
 pub struct Digit;
 
+#[derive(Clone, Copy)]
 pub struct HexDigit;
 
 // Neither a blank nor a closing bracket.
+#[derive(Clone, Copy)]
 pub struct Item;
 
 // No newline.
+#[derive(Clone, Copy)]
 pub struct Line;
 
 impl Kind for Letter {

@@ -1,4 +1,4 @@
-// Numbers of eight bytes, the lowest byte first.
+// Numbers of eight bytes, the lowest byte first, and runs of bytes.
 ghost use Rattle.std.specs.Prelude.{◌≡◌, ◌+◌, ◌≤◌, length};
 ghost use Rattle.host.specs.Bytes.{number_at, number};
 
@@ -19,4 +19,15 @@ pub(crate) fn number_bytes(n: u64) -> [u8; 8]
     ensures { result ≡ number n }
 {
     n.to_le_bytes()
+}
+
+// Copies a run of bytes. With `copy_from_slice` in its place the archive (`crates/host_c`) would call C's
+// `memmove`, besides `memcpy` and `memset`.
+pub(crate) fn copy(to: &mut [u8], from: &[u8])
+    requires { length to.old ≡ length from.now }
+    ensures { to.new ≡ from.now }
+{
+    for (i, b) in from.iter().enumerate() {
+        to[i] = *b;
+    }
 }

@@ -91,7 +91,7 @@ pub(crate) fn answer(e: SparkleEngine, call: Call<'_>, out: &mut [u8]) -> Sparkl
 {
     let (head, shown) = out.split_at_mut(ANSWER_HEAD);
     if let CallKind::Data | CallKind::Final = call.kind {
-        shown.copy_from_slice(call.third);
+        bytes::copy(shown, call.third);
     }
     let called = call.make(e, shown);
     let tag = aead_cipher::mac(called.engine);

@@ -3,6 +3,9 @@
 // AeadParamsRef. The file stdout holds the printed block.
 #![tactic(auto)]
 
+ghost use Rattle.std.specs.Prelude.{◌≡◌};
+ghost use Rattle.tc_sparkle_aead.specs.Calls.{process_aad_bytes, process_bytes, process_bytes_out, do_final, do_final_out};
+
 use entry_calls::aead_params_ref::AeadParamsRef;
 use entry_calls::{aead_cipher, aead_params_ref};
 use sheet_text::text;
@@ -37,9 +40,11 @@ fn init(rt: &impl Print, e: &mut SparkleEngine) -> io::Result<()> {
     show(rt, e, kind, refusal::start_answer(answer))
 }
 
-// The calls of the sheet, each with its line. One function for the three would take the call as a closure, and be
-// no shorter.
-fn process_aad_bytes(rt: &impl Print, e: &mut SparkleEngine, input: &[u8]) -> io::Result<()> {
+// The calls of the sheet, each with its line: what a call leaves is said, whether or not its line is written. One
+// function for the three would take the call as a closure, and be no shorter.
+fn process_aad_bytes(rt: &impl Print, e: &mut SparkleEngine, input: &[u8]) -> io::Result<()>
+    ensures engine_after { e.new ≡ (process_aad_bytes e.old input.now).engine }
+{
     let answer = aead_cipher::process_aad_bytes(e, input);
     show(rt, e, CallKind::Aad, refusal::call_answer(answer))
 }
@@ -49,12 +54,18 @@ fn process_bytes(
     e: &mut SparkleEngine,
     input: &[u8],
     output: &mut [u8],
-) -> io::Result<()> {
+) -> io::Result<()>
+    ensures engine_after { e.new ≡ (process_bytes e.old input.now output.old).engine }
+    ensures output_after { output.new ≡ process_bytes_out e.old input.now output.old }
+{
     let answer = aead_cipher::process_bytes(e, input, output);
     show(rt, e, CallKind::Data, refusal::call_answer(answer))
 }
 
-fn do_final(rt: &impl Print, e: &mut SparkleEngine, output: &mut [u8]) -> io::Result<()> {
+fn do_final(rt: &impl Print, e: &mut SparkleEngine, output: &mut [u8]) -> io::Result<()>
+    ensures engine_after { e.new ≡ (do_final e.old output.old).engine }
+    ensures output_after { output.new ≡ do_final_out e.old output.old }
+{
     let answer = aead_cipher::do_final(e, output);
     show(rt, e, CallKind::Final, refusal::call_answer(answer))
 }

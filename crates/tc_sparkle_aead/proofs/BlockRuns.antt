@@ -17,7 +17,7 @@ use Rattle.schwaemm.specs.Blocks.{after, given}
 use Rattle.schwaemm.specs.Schwaemm.{Params, Sizes, mix, crypt}
 use Rattle.schwaemm.proofs.Cut.{after_add, given_add, length-given}
 use Rattle.schwaemm.proofs.States.{state_length, length-mix, length-crypt, words-permute}
-use Rattle.tc_sparkle_aead.specs.Message.{plain_by, mask_of, xor_block, wide_params, block_step, blocks_out}
+use Rattle.tc_sparkle_aead.specs.Message.{sized, plain_by, mask_of, xor_block, wide_params, block_step, blocks_out}
 use Rattle.tc_sparkle_aead.proofs.MixLaws.{crypt-state, mix-block}
 
 -- A block makes a state of a state.
@@ -125,3 +125,8 @@ wide_variant Schwaemm256_128 h r e = ap (λ (n : ℕ). wide_params (eqb n 32)) e
 wide_variant Schwaemm192_192 h r e = ap (λ (n : ℕ). wide_params (eqb n 32)) e
 wide_variant Schwaemm256_256 (inl h) r e = absurd (omega arith)
 wide_variant Schwaemm256_256 (inr h) r e = absurd (omega arith)
+
+-- the code's two states of 12 words are theirs
+pub wide_sized : (sized 12 8 7 11 ≡ wide_params true) × (sized 12 6 7 11 ≡ wide_params false)
+unfolding wide_params
+wide_sized = (refl, refl)

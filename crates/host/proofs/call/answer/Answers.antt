@@ -10,12 +10,12 @@ returns c =
     let k = c.args.call in
     let lent : Lent k.kind k.third.now c.match-call.shown =
     elim c.match-call.branch [
-      | in-Data w ↦ (let e = w.shown-is ∙ w.copy_from_slice.ensures.after in (λ is. e, λ is. e))
+      | in-Data w ↦ (let e = w.shown-is ∙ w.copy.ensures in (λ is. e, λ is. e))
       | in_default w ↦ (λ is. absurd (w.in_default.not-Data is), λ is. absurd (w.in_default.not-Final is))
     ] in
     let tagged : Tagged k.kind c.mac-tag.result c.make-called.new.output c.match-call-2.shown =
     elim c.match-call-2.branch [
-      | in-Mac w ↦ (λ is. w.shown-is ∙ w.copy_from_slice-in-Mac.ensures.after, λ not. absurd (not w.in-Mac.is))
+      | in-Mac w ↦ (λ is. w.shown-is ∙ w.copy_from_slice.ensures.after, λ not. absurd (not w.in-Mac.is))
       | in_default-kind w ↦ (λ is. absurd (w.in_default-kind.not-Mac is), λ not. w.shown-is)
     ] in
     let w =
